@@ -1,0 +1,10 @@
+pub mod Worst
+pub mod Least
+pub mod Unbeaten
+pub mod Rule
+pub mod Best
+pub mod Ceiling
+pub mod Narrowing
+pub mod Table
+pub mod Bounds
+pub mod Ends

@@ -1,0 +1,69 @@
+-- The worst error of an entry, for all whole u, i and j: no power of two is needed. Assumes nothing.
+use Prim.Native.Nat.{ℕ, zero, suc, _+_, _-_, _*_, _≤_, _<_, max}
+use mathlib.Core.Path.{_≡_}
+use native.Mathlib.Omega.{arith}
+use borrow.Author.Tests.{lt-ltb, le-ltb}
+use lib.IntN.{pos, _-ℤ_, natAbs}
+use Rattle.units.proofs.Laws.Order.{by-order}
+use Rattle.entry.specs.Errors.{high, low, worst, side}
+
+-- the product at the right end and at the middle, from the one at the left end
+pub at-right : (i j : ℕ) → (i + 1) * j ≡ i * j + j
+at-right i j = omega arith
+
+pub at-middle : (i j : ℕ) → (2 * i + 1) * j ≡ 2 * (i * j) + j
+at-middle i j = omega arith
+
+-- the distance of two numbers
+unfoldable pub dist : ℕ → ℕ → ℕ
+dist a b = (a - b) + (b - a)
+
+pub size-of-difference : (a b : ℕ) → natAbs (pos a -ℤ pos b) ≡ dist a b
+unfolding dist
+size-of-difference a zero = omega arith
+size-of-difference a (suc b) =
+    by-order (suc b) a
+    (λ (h : suc b ≤ a). simp (le-ltb a (suc b) h) (omega arith))
+    (λ (h : a < suc b). simp (lt-ltb a (suc b) h) (omega arith))
+
+-- Of the two errors that have a sign, the left end's counts where it is above zero and the right end's where it is below: i·j is at most (i+1)·j
+pub worst-by-ends : (u i j : ℕ) → worst u i j ≡ max (u - i * j) ((i + 1) * j - u)
+unfolding worst low high dist
+worst-by-ends u i j = simp size-of-difference (omega arith)
+
+-- MATH.md, 1: "The key identity"
+pub worst-doubled : (u i j : ℕ) → 2 * worst u i j ≡ dist (2 * u) ((2 * i + 1) * j) + j
+unfolding dist
+worst-doubled u i j = rw worst-by-ends (omega arith)
+
+-- What a bound on the worst error says, and what says it
+pub worst-within : (u i j : ℕ) (w : ℕ) → u ≤ i * j + w → (i + 1) * j ≤ u + w → worst u i j ≤ w
+worst-within u i j w l r = rw worst-by-ends (omega arith)
+
+pub within-worst : (u i j : ℕ) → (u ≤ i * j + worst u i j) × ((i + 1) * j ≤ u + worst u i j)
+within-worst u i j = rw worst-by-ends (omega arith)
+
+-- MATH.md, 2: which side is larger goes by the sign of 2u - (2i+1)·j
+module _ (u i j : ℕ) where
+  pub side-left : 0 < j → (2 * i + 1) * j < 2 * u → side u i j ≡ 0
+  unfolding side low high dist
+  side-left p h =
+      simp
+      (size-of-difference,
+      lt-ltb (dist u ((i + 1) * j)) (dist u (i * j)) (omega (arith, at-right i j, at-middle i j)))
+
+  pub side-right : 0 < j → 2 * u < (2 * i + 1) * j → side u i j ≡ 1
+  unfolding side low high dist
+  side-right p h =
+      simp
+      (size-of-difference,
+      le-ltb (dist u ((i + 1) * j)) (dist u (i * j)) (omega (arith, at-right i j, at-middle i j)),
+      lt-ltb (dist u (i * j)) (dist u ((i + 1) * j)) (omega (arith, at-right i j, at-middle i j)))
+
+  pub side-both : (2 * i + 1) * j ≡ 2 * u → side u i j ≡ 2
+  unfolding side low high dist
+  side-both h =
+      simp
+      (size-of-difference,
+      le-ltb (dist u ((i + 1) * j)) (dist u (i * j)) (omega (arith, at-right i j, at-middle i j)),
+      le-ltb (dist u (i * j)) (dist u ((i + 1) * j)) (omega (arith, at-right i j, at-middle i j)))

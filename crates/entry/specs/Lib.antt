@@ -1,0 +1,7 @@
+pub mod Errors
+pub mod Least
+pub mod Rule
+pub mod Ceiling
+pub mod Inside
+pub mod Bounds
+pub mod Report

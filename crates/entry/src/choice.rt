@@ -1,0 +1,71 @@
+// The best value of an interval.
+ghost use mathlib.Core.Path.{_≡_};
+ghost use mathlib.Core.Bool.{_&&_, _||_};
+ghost use Prim.Native.Nat.{_+_, _*_, _^_, _≤_, _<_};
+ghost use lib.Dec.{leb, eqb};
+ghost use Rattle.entry.specs.Bounds.{At};
+ghost use Rattle.entry.specs.Least.{cap, leastWorst, isBest};
+ghost use Rattle.entry.specs.Rule.{rule, ruleValue};
+
+use units::Entry;
+use units::Interval;
+use units::Worst;
+
+use crate::measure::sizes_of;
+use crate::numbers::cap_of;
+use crate::numbers::left_end;
+use crate::numbers::unit_of;
+
+// The whole number nearest to 2u/(2i+1), but never above most. One division.
+fn nearest_within(u: u64, i: u64, most: u64) -> u64
+    requires { ⌜ (u ≤ 2 ^ 31) × (i < 2 ^ 16) ⌝ }
+    ensures { λ r. ⌜ r ≡ rule u i most ⌝ }
+{
+    let nearest = (2 * u + i) / (2 * i + 1);
+    if nearest <= most { nearest } else { most }
+}
+
+// Whether j is not too high and, unless it is the most, not too low. One product and no division.
+fn passes(u: u64, i: u64, most: u64, j: u64) -> bool
+    requires { ⌜ (u ≤ 2 ^ 31) × ((i < 2 ^ 16) × (j < 2 ^ 16)) ⌝ }
+    ensures { λ r. ⌜ r ≡ (leb ((2 * i + 1) * j) (2 * u + i) && (eqb j most || leb (2 * u) ((2 * i + 1) * j + i + 1))) ⌝ }
+{
+    let middle = (2 * i + 1) * j;
+    if 2 * u + i < middle {
+        return false;
+    }
+    if j == most {
+        return true;
+    }
+    2 * u <= middle + i + 1
+}
+
+// The builder's value for interval n.
+pub fn best(k: u32, m: u32, n: Interval) -> Entry
+    requires { ⌜ At k m (n .0) ⌝ }
+    ensures { λ r. ⌜ r .0 ≡ ruleValue k m (n .0) ⌝ }
+{
+    Entry(nearest_within(unit_of(k, m), left_end(k, n), cap_of(m).0 as u64) as u32)
+}
+
+// The least worst error that any value has over interval n.
+pub fn least(k: u32, m: u32, n: Interval) -> Worst
+    requires { ⌜ At k m (n .0) ⌝ }
+    ensures { λ r. ⌜ r .0 ≡ leastWorst k m (n .0) ⌝ }
+{
+    sizes_of(k, m, n, best(k, m, n)).worst()
+}
+
+// Whether the value j is best for interval n; of two equally good ones, both are.
+pub fn is_best(k: u32, m: u32, n: Interval, j: Entry) -> bool
+    requires { ⌜ At k m (n .0) ⌝ }
+    requires { ⌜ (2 ^ m ≤ j .0) × (j .0 ≤ cap m) ⌝ }
+    ensures { λ r. ⌜ r ≡ isBest k m (n .0) (j .0) ⌝ }
+{
+    passes(
+        unit_of(k, m),
+        left_end(k, n),
+        cap_of(m).0 as u64,
+        j.0 as u64,
+    )
+}

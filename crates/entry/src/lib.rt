@@ -1,0 +1,18 @@
+// One entry of a reciprocal table: its exact errors, its best value, and the test whether a value is
+// best. `entry_error` is a call of document 01; the rest is for the crates above.
+mod call;
+mod choice;
+mod measure;
+mod numbers;
+
+pub use call::ErrorAnswer;
+pub use call::admission;
+pub use call::entry_error;
+pub use choice::best;
+pub use choice::is_best;
+pub use choice::least;
+pub use measure::Errors;
+pub use measure::Sizes;
+pub use measure::errors_of;
+pub use measure::sizes_of;
+pub use numbers::entry_of;

@@ -1,0 +1,81 @@
+-- What the end of a call's tests says of its answer, and of each test. Assumes nothing.
+use Prim.Native.Nat.{ℕ, _≤_, _<_}
+use mathlib.Core.Bool.{Bool, true, false, cond, _||_, false≢true}
+use mathlib.Core.List.{List, [], _∷_, _++_}
+use mathlib.Core.Path.{_≡_, refl, sym, ap, _∙_}
+use native.Mathlib.Omega.{arith}
+use borrow.Author.Tests.{ltb-false}
+use lib.Dec.{T, ltb}
+use Rattle.units.specs.Refusals.{Back, back, refusalNumber, Test, answer, refusal, outside}
+use Rattle.units.specs.declared.refusals.Refusal.{Refusal}
+use Rattle.units.specs.declared.refusals.Refusal.the-variants.{InputWidth, OutputWidth, FewCells, Place, Divisor, Line}
+
+-- no reason holds
+abbrev pub Passed : List Test → Type 0
+Passed [] = Unit {0}
+Passed (t ∷ ts) = (t .holds ≡ false) × Passed ts
+
+-- no test gives the number 0
+abbrev pub Numbered : List Test → Type 0
+Numbered [] = Unit {0}
+Numbered (t ∷ ts) = (0 < t .gives .number) × Numbered ts
+
+pub refusal-numbered : (r : Refusal) → 0 < refusalNumber r
+refusal-numbered InputWidth = omega arith
+refusal-numbered OutputWidth = omega arith
+refusal-numbered FewCells = omega arith
+refusal-numbered Place = omega arith
+refusal-numbered Divisor = omega arith
+refusal-numbered Line = omega arith
+
+-- where every test passes the call is done
+pub done-by : {A : Type 0} (refuse : Back → A) (done : A) (ts : List Test) → Passed ts → done ≡ answer refuse done ts
+unfolding answer
+done-by refuse done [] p = refl
+done-by refuse done (t ∷ ts) p = rw (p .0) (done-by refuse done ts (p .1))
+
+-- where one does not, nothing after it counts
+first-refused : {A : Type 0} (refuse : Back → A) (rest : A) (holds : Bool) (gives after : Back)
+    → (0 < after .number → rest ≡ refuse after)
+    → 0 < cond holds gives after .number
+    → cond holds (refuse gives) rest ≡ refuse (cond holds gives after)
+first-refused refuse rest true gives after later h = refl
+first-refused refuse rest false gives after later h = later h
+
+refused-first : {A : Type 0} (refuse : Back → A) (done : A) (ts rest : List Test) → 0 < refusal ts .number
+    → answer refuse done (ts ++ rest) ≡ refuse (refusal ts)
+unfolding answer
+refused-first refuse done [] rest h = absurd (omega arith)
+refused-first refuse done (t ∷ ts) rest h =
+    first-refused refuse (answer refuse done (ts ++ rest)) (t .holds) (t .gives) (refusal ts) (refused-first refuse done ts rest) h
+
+pub refused-by : {A : Type 0} (refuse : Back → A) (done : A) (ts rest : List Test) {b : Back} → b ≡ refusal ts → 0 < b .number
+    → refuse b ≡ answer refuse done (ts ++ rest)
+refused-by refuse done ts rest e h = ap refuse e ∙ sym (refused-first refuse done ts rest (rw e at h))
+
+-- number 0 says that no reason holds
+first-passed : (holds : Bool) (gives after : Back) → 0 < gives .number → cond holds gives after .number ≡ 0
+    → (holds ≡ false) × (after .number ≡ 0)
+first-passed true gives after p e = absurd (omega arith)
+first-passed false gives after p e = (refl, e)
+
+all-passed : (ts : List Test) → Numbered ts → refusal ts .number ≡ 0 → Passed ts
+unfolding answer
+all-passed [] p e = tt
+all-passed (t ∷ ts) p e =
+    let first = first-passed (t .holds) (t .gives) (refusal ts) (p .0) e in
+    (first .0, all-passed ts (p .1) (first .1))
+
+pub passed : (ts : List Test) → Numbered ts → back 0 0 ≡ refusal ts → Passed ts
+passed ts p e = all-passed ts p (sym (ap (λ (b : Back). b .number) e))
+
+-- a number that is not outside
+or-false : (a b : Bool) → (a || b) ≡ false → (a ≡ false) × (b ≡ false)
+or-false true b e = absurd (false≢true (sym e))
+or-false false b e = (refl, e)
+
+pub not-outside : (least most x : ℕ) → outside least most x ≡ false → (least ≤ x) × (x ≤ most)
+unfolding outside
+not-outside least most x e =
+    let both = or-false (ltb x least) (ltb most x) e in
+    (ltb-false x least (both .0), ltb-false most x (both .1))

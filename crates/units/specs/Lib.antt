@@ -1,0 +1,2 @@
+pub mod Sides
+pub mod Refusals

@@ -1,0 +1,73 @@
+-- Document 01, "Refusal numbers and their order". Assumes nothing.
+use Prim.Native.Nat.{ℕ, _^_}
+use mathlib.Core.Bool.{Bool, _||_, cond}
+use mathlib.Core.List.{List, [], _∷_}
+use lib.Dec.{ltb, leb}
+use Rattle.units.specs.declared.refusals.Refusal.{Refusal}
+use Rattle.units.specs.declared.refusals.Refusal.the-variants.{InputWidth, OutputWidth, FewCells, Place, Divisor, Line}
+use Rattle.units.specs.declared.refusals.Admission.{Admission}
+use Rattle.units.specs.declared.refusals.Admission.the-variants.{Admitted, TooWide, Refused}
+
+-- The column "No."
+abbrev pub refusalNumber : Refusal → ℕ
+refusalNumber InputWidth = 1
+refusalNumber OutputWidth = 2
+refusalNumber FewCells = 3
+refusalNumber Place = 4
+refusalNumber Divisor = 6
+refusalNumber Line = 7
+
+-- The column "What comes back": the number and, with 5, an n. "Fields that an answer doesn't use are zero."
+pub record Back : Type 0 where
+  pub number : ℕ
+  pub n : ℕ
+
+abbrev pub back : ℕ → ℕ → Back
+back number n = record { number = number; n = n }
+
+-- How the tests of a call end: number 0, "done", where the call goes on
+abbrev pub backOf : Admission → Back
+backOf Admitted = back 0 0
+backOf (TooWide n) = back 5 (n .0)
+backOf (Refused r) = back (refusalNumber r) 0
+
+-- One test of a call: whether its reason holds (the column "When"), and what then comes back
+pub record Test : Type 0 where
+  pub holds : Bool
+  pub gives : Back
+
+abbrev pub test : Bool → Back → Test
+test holds gives = record { holds = holds; gives = gives }
+
+-- "Order in each call": the first test whose reason holds gives the answer. Where none does, the call is done
+unfoldable pub answer : {A : Type 0} → (Back → A) → A → List Test → A
+answer refuse done [] = done
+answer refuse done (t ∷ ts) = cond (t .holds) (refuse (t .gives)) (answer refuse done ts)
+
+-- the number alone, and the n that it names
+abbrev pub refusal : List Test → Back
+refusal ts = answer (λ (b : Back). b) (back 0 0) ts
+
+-- x is not from least to most
+unfoldable pub outside : ℕ → ℕ → ℕ → Bool
+outside least most x = ltb x least || ltb most x
+
+-- 1: "k not 1..15"
+abbrev pub inputWidth : ℕ → Test
+inputWidth k = test (outside 1 15 k) (back 1 0)
+
+-- 2: "m not 1..15"
+abbrev pub outputWidth : ℕ → Test
+outputWidth m = test (outside 1 15 m) (back 2 0)
+
+-- 4: "n >= 2^k"
+abbrev pub place : ℕ → ℕ → Test
+place k n = test (leb (2 ^ k) n) (back 4 0)
+
+-- 5: "a field >= 2^m", here the one field f of interval n: "number and the smallest such n"
+abbrev pub tooWide : ℕ → ℕ → ℕ → Test
+tooWide m n f = test (leb (2 ^ m) f) (back 5 n)
+
+-- the tests of every call that takes both widths begin so
+abbrev pub widthTests : ℕ → ℕ → List Test
+widthTests k m = inputWidth k ∷ outputWidth m ∷ []
