@@ -3,8 +3,9 @@ pub mod Least
 pub mod Unbeaten
 pub mod Rule
 pub mod Best
+pub mod Table
 pub mod Ceiling
 pub mod Narrowing
-pub mod Table
 pub mod Bounds
 pub mod Ends
+pub mod Report

@@ -23,14 +23,14 @@ refused b = record { number = b .number; n = b .n; low = pos 0; high = pos 0; wo
 -- what each case of the answer says in document 01's numbers
 abbrev pub reported : ErrorAnswer → Report
 reported (Done e) =
-    record
-      { number = 0
-      ; n = 0
-      ; low = e .low .0
-      ; high = e .high .0
-      ; worst = e .worst .0
-      ; side = sideNumber (e .side)
-      }
+    record {
+      number = 0;
+      n = 0;
+      low = e .low .0;
+      high = e .high .0;
+      worst = e .worst .0;
+      side = sideNumber (e .side);
+    }
 reported (TooWide n) = refused (back 5 (n .0))
 reported (Refused r) = refused (back (refusalNumber r) 0)
 

@@ -2,16 +2,14 @@
 ghost use mathlib.Core.Path.{_≡_};
 ghost use Rattle.units.specs.Refusals.{backOf, refusal};
 ghost use Rattle.entry.specs.Report.{reported, entryTests, entryReport};
-
+use crate::measure::Errors;
+use crate::measure::errors_of;
+use crate::numbers::entry_of;
 use units::Admission;
 use units::Interval;
 use units::Refusal;
 use units::power;
 use units::widths;
-
-use crate::measure::Errors;
-use crate::measure::errors_of;
-use crate::numbers::entry_of;
 
 // What "Entry error" answers.
 pub enum ErrorAnswer {

@@ -9,6 +9,7 @@ pub use call::ErrorAnswer;
 pub use call::admission;
 pub use call::entry_error;
 pub use choice::best;
+pub use choice::best_field;
 pub use choice::is_best;
 pub use choice::least;
 pub use measure::Errors;

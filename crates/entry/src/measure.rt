@@ -4,15 +4,13 @@ ghost use lib.IntN.{pos, _-ℤ_, natAbs};
 ghost use Rattle.units.specs.Sides.{sideNumber};
 ghost use Rattle.entry.specs.Bounds.{With};
 ghost use Rattle.entry.specs.Errors.{unit, iOf, low, high, worst, side, larger};
-
+use crate::numbers::left_end;
+use crate::numbers::unit_of;
 use units::Entry;
 use units::Error;
 use units::Interval;
 use units::Side;
 use units::Worst;
-
-use crate::numbers::left_end;
-use crate::numbers::unit_of;
 
 // "low, high, worst and side" of an entry, in parts of 2^(k+m+1).
 pub struct Errors {
@@ -79,7 +77,9 @@ impl Sizes {
     pub fn worst(self) -> Worst
         ensures { λ r. ⌜ r .0 ≡ max (self .low .0) (self .high .0) ⌝ }
     {
-        if self.low.0 < self.high.0 { self.high } else { self.low }
+        let left = self.high;
+        let right = self.low;
+        if right.0 < left.0 { left } else { right }
     }
 
     // The end at which the larger one is.

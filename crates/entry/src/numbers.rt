@@ -4,7 +4,6 @@ ghost use Prim.Native.Nat.{_<_, _≤_, _^_};
 ghost use Rattle.entry.specs.Bounds.{At};
 ghost use Rattle.entry.specs.Errors.{unit, iOf, jOf};
 ghost use Rattle.entry.specs.Least.{cap};
-
 use units::Entry;
 use units::Interval;
 use units::power;

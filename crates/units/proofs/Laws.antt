@@ -1,3 +1,4 @@
 pub mod Order
 pub mod Powers
 pub mod Tests
+pub mod OneToOne

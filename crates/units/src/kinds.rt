@@ -1,3 +1,8 @@
+ghost use mathlib.Core.Path.{_≡_};
+ghost use lib.IntN.{pos, natAbs};
+ghost use lib.Signed.{ltZ};
+ghost use Rattle.units.specs.Sides.{sideNumber};
+
 // "Interval numbers count in 1/2^k, entry numbers in 1/2^(m+1), error numbers in 1/2^(k+m+1) ..
 // Each count must be kept apart from the others by its kind." (Document 01, "Numbers and their
 // units".)
@@ -19,4 +24,37 @@ pub enum Side {
     Left,
     Right,
     Both,
+}
+
+impl Error {
+    // Whether it is below zero.
+    pub fn is_negative(self) -> bool
+        ensures { λ r. ⌜ r ≡ ltZ (self .0) (pos 0) ⌝ }
+    {
+        self.0 < 0
+    }
+
+    // Its size.
+    pub fn size(self) -> Worst
+        ensures { λ r. ⌜ r .0 ≡ natAbs (self .0) ⌝ }
+    {
+        let e = self.0;
+        if e < 0 {
+            return Worst((-(e + 1)) as u64 + 1);
+        }
+        Worst(e as u64)
+    }
+}
+
+impl Side {
+    // Document 01's number for it.
+    pub fn number(self) -> u32
+        ensures { λ r. ⌜ r ≡ sideNumber self ⌝ }
+    {
+        match self {
+            Side::Left => 0,
+            Side::Right => 1,
+            Side::Both => 2,
+        }
+    }
 }

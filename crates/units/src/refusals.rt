@@ -1,6 +1,5 @@
 ghost use mathlib.Core.Path.{_≡_};
-ghost use Rattle.units.specs.Refusals.{backOf, refusal, widthTests, outside as «is-outside»};
-
+ghost use Rattle.units.specs.Refusals.{backOf, refusalNumber, refusal, widthTests, outside as «is-outside»};
 use crate::kinds::Interval;
 
 // The refusals of document 01 that give a number only. Number 5 names an interval besides, so it
@@ -18,6 +17,22 @@ pub enum Refusal {
     Divisor,
     // 7: the listing's input line has another form.
     Line,
+}
+
+impl Refusal {
+    // Document 01's number for it.
+    pub fn number(self) -> u32
+        ensures { λ r. ⌜ r ≡ refusalNumber self ⌝ }
+    {
+        match self {
+            Refusal::InputWidth => 1,
+            Refusal::OutputWidth => 2,
+            Refusal::FewCells => 3,
+            Refusal::Place => 4,
+            Refusal::Divisor => 6,
+            Refusal::Line => 7,
+        }
+    }
 }
 
 // How the tests of a call end: it may go on, or it answers one of document 01's numbers.

@@ -40,18 +40,18 @@ module _ (u i most : ℕ) (positive : 0 < i) where
     one-product-decides =
         by-order ((2 * i + 1) * j) (2 * u + i)
         (λ (a : (2 * i + 1) * j ≤ 2 * u + i).
-          by-order most j
-          (λ (top : most ≤ j).
-            simp (le-leb _ _ a, eq-eqb j most (omega arith))
-            (sym (yes-best (record { not-high = a; not-low = λ b. absurd (omega arith) }))))
-          (λ (below : j < most).
-            by-order (2 * u) ((2 * i + 1) * j + i + 1)
-            (λ (b : 2 * u ≤ (2 * i + 1) * j + i + 1).
-              simp (le-leb _ _ a, ne-eqb j most (λ e. omega arith), le-leb _ _ b)
-              (sym (yes-best (record { not-high = a; not-low = λ _. b }))))
-            (λ (b : (2 * i + 1) * j + i + 1 < 2 * u).
-              simp (le-leb _ _ a, ne-eqb j most (λ e. omega arith), lt-leb _ _ b)
-              (sym (not-best (λ p. omega (arith, p .not-low below)))))))
+        by-order most j
+        (λ (top : most ≤ j).
+        simp (le-leb _ _ a, eq-eqb j most (omega arith))
+        (sym (yes-best (record { not-high = a; not-low = λ b. absurd (omega arith) }))))
+        (λ (below : j < most).
+        by-order (2 * u) ((2 * i + 1) * j + i + 1)
+        (λ (b : 2 * u ≤ (2 * i + 1) * j + i + 1).
+        simp (le-leb _ _ a, ne-eqb j most (λ e. omega arith), le-leb _ _ b)
+        (sym (yes-best (record { not-high = a; not-low = λ _. b }))))
+        (λ (b : (2 * i + 1) * j + i + 1 < 2 * u).
+        simp (le-leb _ _ a, ne-eqb j most (λ e. omega arith), lt-leb _ _ b)
+        (sym (not-best (λ p. omega (arith, p .not-low below)))))))
         (λ (a : 2 * u + i < (2 * i + 1) * j). simp (lt-leb _ _ a) (sym (not-best (λ p. omega (arith, p .not-high)))))
 
   -- Document 01: "Two neighbouring values can be equally good": they are the rule's and the one below it
@@ -59,6 +59,7 @@ module _ (u i most : ℕ) (positive : 0 < i) where
       → (x ≡ rule u i most) × (suc j ≡ x)
   two-best-are-neighbours {j} {x} l h best-j best-x =
       let below : 2 * u ≤ (2 * i + 1) * j + i + 1 = best-j .not-low (omega arith) in
-      let step = mul-le-mul-left i l in
-      (only-the-rule u i most h (best-x .not-high) (λ a. omega (arith, step)),
-      by-order x (suc j) (λ a. omega arith) (λ a. omega (arith, best-x .not-high, mul-le-mul-left i a)))
+      let step = mul-le-mul-left i l in (
+        only-the-rule u i most h (best-x .not-high) (λ a. omega (arith, step)),
+        by-order x (suc j) (λ a. omega arith) (λ a. omega (arith, best-x .not-high, mul-le-mul-left i a)),
+      )

@@ -13,15 +13,15 @@ use Rattle.entry.proofs.Laws.Table.{cap-is}
 
 pub admitted-entry : (k m n f : ℕ) → Passed (entryTests k m n f) → With k m n (jOf m f)
 admitted-entry k m n f p =
-    record
-      { place =
-          record
-            { narrow-in = not-outside 1 15 k (p .0) .1
-            ; narrow-out = not-outside 1 15 m (p .1 .0) .1
-            ; interval = leb-false (2 ^ k) n (p .1 .1 .0)
-            }
-      ; entry = omega (arith, leb-false (2 ^ m) f (p .1 .1 .1 .0), pow-add 2 m 1)
-      }
+    record {
+      place =
+          record {
+            narrow-in = not-outside 1 15 k (p .0) .1;
+            narrow-out = not-outside 1 15 m (p .1 .0) .1;
+            interval = leb-false (2 ^ k) n (p .1 .1 .0);
+          };
+      entry = omega (arith, leb-false (2 ^ m) f (p .1 .1 .1 .0), pow-add 2 m 1);
+    }
 
 pub unit-bound : {k m n : ℕ} → At k m n → unit k m ≤ 2 ^ 31
 unit-bound {k} {m} a = pow-mono {i = k + m + 1} {j = 31} (omega (arith, a .narrow-in, a .narrow-out))

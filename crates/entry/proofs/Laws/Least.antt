@@ -22,8 +22,8 @@ below-each u i first zero {j} l h =
 below-each u i first (suc more) {j} l h =
     by-order j first
     (λ (b : j ≤ first).
-      let e : worst u i first ≡ worst u i j = ap (worst u i) (omega arith) in
-      omega arith)
+    let e : worst u i first ≡ worst u i j = ap (worst u i) (omega arith) in
+    omega arith)
     (λ (b : first < j). omega (arith, below-each u i (suc first) more b (omega arith)))
 
 reached-in : (u i first more : ℕ) → Reached u i first (first + more) (leastOf u i first more)

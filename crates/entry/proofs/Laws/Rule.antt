@@ -58,9 +58,9 @@ module _ (u i most : ℕ) where
   only-the-rule {x} h a b =
       by-order x (rule u i most)
       (λ l.
-        by-order (rule u i most) x
-        (λ g. omega arith)
-        (λ g. absurd (never-two g rule-not-high (b (omega (arith, rule-at-most))))))
+      by-order (rule u i most) x
+      (λ g. omega arith)
+      (λ g. absurd (never-two g rule-not-high (b (omega (arith, rule-at-most))))))
       (λ l. absurd (never-two l a (rule-not-low (omega arith))))
 
   pub rule-passes : Passes u i most (rule u i most)

@@ -45,9 +45,9 @@ module _ (u i most : ℕ) where
   passes-unbeaten {j} p x h =
       by-order x j
       (λ (l : x ≤ j).
-        by-order j x
-        (λ (e : j ≤ x). le-of-eq (ap (worst u i) (omega arith)))
-        (λ (e : x < j). beats-below u i j x (p .not-high) e))
+      by-order j x
+      (λ (e : j ≤ x). le-of-eq (ap (worst u i) (omega arith)))
+      (λ (e : x < j). beats-below u i j x (p .not-high) e))
       (λ (l : j < x). beats-above u i j x (p .not-low (omega arith)) l)
 
   unbeaten-not-high : (j : ℕ) → j ≤ most → Unbeaten u i most j → (2 * i + 1) * j ≤ 2 * u + i
@@ -59,11 +59,11 @@ module _ (u i most : ℕ) where
 
   pub unbeaten-passes : {j : ℕ} → 0 < i → j ≤ most → Unbeaten u i most j → Passes u i most j
   unbeaten-passes {j} p h best =
-      record
-        { not-high = unbeaten-not-high j h best
-        ; not-low =
+      record {
+        not-high = unbeaten-not-high j h best;
+        not-low =
             λ (below : j < most).
-              by-order (2 * u) ((2 * i + 1) * j + i + 1)
-              (λ l. l)
-              (λ l. omega (arith, beaten-from-above u i j p l, best (suc j) below))
-        }
+            by-order (2 * u) ((2 * i + 1) * j + i + 1)
+            (λ l. l)
+            (λ l. omega (arith, beaten-from-above u i j p l, best (suc j) below));
+      }

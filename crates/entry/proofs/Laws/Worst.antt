@@ -48,22 +48,25 @@ module _ (u i j : ℕ) where
   pub side-left : 0 < j → (2 * i + 1) * j < 2 * u → side u i j ≡ 0
   unfolding side low high dist
   side-left p h =
-      simp
-      (size-of-difference,
-      lt-ltb (dist u ((i + 1) * j)) (dist u (i * j)) (omega (arith, at-right i j, at-middle i j)))
+      simp (
+        size-of-difference,
+        lt-ltb (dist u ((i + 1) * j)) (dist u (i * j)) (omega (arith, at-right i j, at-middle i j)),
+      )
 
   pub side-right : 0 < j → 2 * u < (2 * i + 1) * j → side u i j ≡ 1
   unfolding side low high dist
   side-right p h =
-      simp
-      (size-of-difference,
-      le-ltb (dist u ((i + 1) * j)) (dist u (i * j)) (omega (arith, at-right i j, at-middle i j)),
-      lt-ltb (dist u (i * j)) (dist u ((i + 1) * j)) (omega (arith, at-right i j, at-middle i j)))
+      simp (
+        size-of-difference,
+        le-ltb (dist u ((i + 1) * j)) (dist u (i * j)) (omega (arith, at-right i j, at-middle i j)),
+        lt-ltb (dist u (i * j)) (dist u ((i + 1) * j)) (omega (arith, at-right i j, at-middle i j)),
+      )
 
   pub side-both : (2 * i + 1) * j ≡ 2 * u → side u i j ≡ 2
   unfolding side low high dist
   side-both h =
-      simp
-      (size-of-difference,
-      le-ltb (dist u ((i + 1) * j)) (dist u (i * j)) (omega (arith, at-right i j, at-middle i j)),
-      le-ltb (dist u (i * j)) (dist u ((i + 1) * j)) (omega (arith, at-right i j, at-middle i j)))
+      simp (
+        size-of-difference,
+        le-ltb (dist u ((i + 1) * j)) (dist u (i * j)) (omega (arith, at-right i j, at-middle i j)),
+        le-ltb (dist u (i * j)) (dist u ((i + 1) * j)) (omega (arith, at-right i j, at-middle i j)),
+      )

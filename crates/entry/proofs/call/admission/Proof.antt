@@ -56,21 +56,23 @@ returns-4 : tie.Need-returns-4
 unfolding answer
 returns-4 c =
     let good = admitted (c .before .before .before .before .before) in
-    simp
-    (good .0,
-    good .1 .0,
-    lt-leb _ _ (rw (c .before .before .before .before .power .ensures) at (c .before .before .if1 .left)),
-    le-leb _ _ (rw (c .before .power2 .ensures) at (c .if2 .taken)))
+    simp (
+      good .0,
+      good .1 .0,
+      lt-leb _ _ (rw (c .before .before .before .before .power .ensures) at (c .before .before .if1 .left)),
+      le-leb _ _ (rw (c .before .power2 .ensures) at (c .if2 .taken)),
+    )
 
 returns-5 : tie.Need-returns-5
 unfolding answer
 returns-5 c =
     let good = admitted (c .before .before .before .before .before) in
-    simp
-    (good .0,
-    good .1 .0,
-    lt-leb _ _ (rw (c .before .before .before .before .power .ensures) at (c .before .before .if1 .left)),
-    lt-leb _ _ (rw (c .before .power2 .ensures) at (c .if2 .left)))
+    simp (
+      good .0,
+      good .1 .0,
+      lt-leb _ _ (rw (c .before .before .before .before .power .ensures) at (c .before .before .if1 .left)),
+      lt-leb _ _ (rw (c .before .power2 .ensures) at (c .if2 .left)),
+    )
 
 pub admission-spec : {M : Type 1} → statement M
 admission-spec =

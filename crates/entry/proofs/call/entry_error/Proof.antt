@@ -20,11 +20,11 @@ enum-told c = search needs
 -- every test passed
 admitted : (c : tie.After-enum-told)
     → Passed
-      (entryTests
-        (c .before .before .before .args .k)
-        (c .before .before .before .args .m)
-        (c .before .before .before .args .n .0)
-        (c .before .before .before .args .f))
+    (entryTests
+    (c .before .before .before .args .k)
+    (c .before .before .before .args .m)
+    (c .before .before .before .args .n .0)
+    (c .before .before .before .args .f))
 admitted c = passed _ (omega arith) (sym (ap backOf (c .enum-told .given .1)) ∙ c .before .before .admission .ensures)
 
 entry-of-requires : tie.Need-entry-of-requires

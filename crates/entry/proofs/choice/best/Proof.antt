@@ -2,6 +2,7 @@
 use mathlib.Core.Path.{_≡_, _∙_}
 use native.Mathlib.Omega.{arith}
 use borrow.Author.Needs.{needs}
+use lib.Pow.{pow-pos}
 use Rattle.entry.specs.Rule.{ruleValue}
 use Rattle.entry.proofs.Laws.Bounds.{unit-bound, interval-bound, cap-bound}
 use Rattle.entry.proofs.Laws.Table.{rule-in-range}
@@ -22,17 +23,23 @@ cast-nearest-within c = search needs
 
 nearest-within-requires : tie.Need-nearest-within-requires
 nearest-within-requires c κs =
-    let at = c .before .before .before .before .pre in
-    omega
-    (arith, c .before .before .before .unit-of .ensures, c .before .before .left-end .ensures, unit-bound at, interval-bound at)
+    let start = c .before .before .before .before in
+    omega (
+      arith,
+      c .before .before .before .unit-of .ensures,
+      c .before .before .left-end .ensures,
+      unit-bound (start .pre),
+      pow-pos (start .args .k),
+      interval-bound (start .pre),
+    )
 
 -- what is handed on is the table's
 value : (c : tie.After-nearest-within)
     → c .nearest-within .result
-      ≡ ruleValue
-        (c .before .before .before .before .before .args .k)
-        (c .before .before .before .before .before .args .m)
-        (c .before .before .before .before .before .args .n .0)
+    ≡ ruleValue
+    (c .before .before .before .before .before .args .k)
+    (c .before .before .before .before .before .args .m)
+    (c .before .before .before .before .before .args .n .0)
 value c =
     c .nearest-within .ensures
     ∙ rw (c .before .before .before .before .unit-of .ensures, c .before .before .before .left-end .ensures, c .before .before .cap-of .ensures)
@@ -40,11 +47,12 @@ value c =
 cast-t9 : tie.Need-cast-t9
 cast-t9 c =
     let start = c .before .before .before .before .before in
-    omega
-    (arith,
-    value c,
-    rule-in-range (start .args .k) (start .args .m) (start .pre .interval) .1,
-    cap-bound (start .pre .narrow-out))
+    omega (
+      arith,
+      value c,
+      rule-in-range (start .args .k) (start .args .m) (start .pre .interval) .1,
+      cap-bound (start .pre .narrow-out),
+    )
 
 returns : tie.Need-returns
 returns c = value c

@@ -26,13 +26,14 @@ passes-requires : tie.Need-passes-requires
 passes-requires c κs =
     let at = c .before .before .before .before .before .pre .0 in
     let entry = c .before .before .before .before .before .pre .1 in
-    omega
-    (arith,
-    c .before .before .before .before .unit-of .ensures,
-    c .before .before .before .left-end .ensures,
-    unit-bound at,
-    interval-bound at,
-    cap-bound (at .narrow-out))
+    omega (
+      arith,
+      c .before .before .before .before .unit-of .ensures,
+      c .before .before .before .left-end .ensures,
+      unit-bound at,
+      interval-bound at,
+      cap-bound (at .narrow-out),
+    )
 
 returns : tie.Need-returns
 returns c =

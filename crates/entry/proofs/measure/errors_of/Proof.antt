@@ -4,9 +4,8 @@ use mathlib.Core.Path.{ap, ap₂, _∙_}
 use native.Mathlib.Omega.{arith}
 use borrow.Author.Needs.{needs}
 use lib.IntN.{natAbs}
-use Rattle.entry.specs.declared.measure.Ends.{Ends}
-use Rattle.entry.specs.Errors.{low, high, worst, side, larger}
-use Rattle.entry.proofs.Laws.Ends.{low-end, high-end}
+use Rattle.entry.specs.Errors.{worst, side, larger}
+use Rattle.entry.proofs.Laws.Ends.{ends-measure}
 use Rattle.entry.proofs.Laws.Bounds.{unit-bound, product-bound}
 use Rattle.entry.proofs.measure.errors_of.Statement.{statement}
 use Rattle.entry.proofs.measure.errors_of.Tie as tie
@@ -34,15 +33,18 @@ side-requires : tie.Need-side-requires
 side-requires c κs = search needs
 
 returns : tie.Need-returns
-unfolding low high worst side
+unfolding worst side
 returns c =
-    let ends = c .before .before .before .before .before .ends-of .ensures in
+    let ends = ends-measure _ _ _ (c .before .before .before .before .before .ends-of .ensures) in
     let sizes = c .before .before .before .before .sizes .ensures in
-    let low-size = sizes .0 ∙ ap (λ (e : Ends). natAbs (low-end e)) ends in
-    let high-size = sizes .1 ∙ ap (λ (e : Ends). natAbs (high-end e)) ends in
-    (c .before .before .before .difference .ensures ∙ ap low-end ends,
-    (c .before .before .difference2 .ensures ∙ ap high-end ends,
-    (c .before .worst .ensures ∙ ap₂ max low-size high-size, c .side .ensures ∙ ap₂ larger low-size high-size)))
+    let low-size = sizes .0 ∙ ap natAbs (ends .0) in
+    let high-size = sizes .1 ∙ ap natAbs (ends .1) in (
+      c .before .before .before .difference .ensures ∙ ends .0,
+      (
+        c .before .before .difference2 .ensures ∙ ends .1,
+        (c .before .worst .ensures ∙ ap₂ max low-size high-size, c .side .ensures ∙ ap₂ larger low-size high-size),
+      ),
+    )
 
 pub errors-of-spec : {M : Type 1} → statement M
 errors-of-spec =

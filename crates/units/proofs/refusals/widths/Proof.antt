@@ -18,20 +18,22 @@ outside-requires-2 c κs = search needs
 returns-2 : tie.Need-returns-2
 unfolding answer
 returns-2 c =
-    simp
-    (← (c .before .before .before .outside .ensures),
-    c .before .before .if1 .left,
-    ← (c .before .outside2 .ensures),
-    c .if2 .taken)
+    simp (
+      ← (c .before .before .before .outside .ensures),
+      c .before .before .if1 .left,
+      ← (c .before .outside2 .ensures),
+      c .if2 .taken,
+    )
 
 returns-3 : tie.Need-returns-3
 unfolding answer
 returns-3 c =
-    simp
-    (← (c .before .before .before .outside .ensures),
-    c .before .before .if1 .left,
-    ← (c .before .outside2 .ensures),
-    c .if2 .left)
+    simp (
+      ← (c .before .before .before .outside .ensures),
+      c .before .before .if1 .left,
+      ← (c .before .outside2 .ensures),
+      c .if2 .left,
+    )
 
 pub widths-spec : {M : Type 1} → statement M
 widths-spec = tie.close (tie.spec outside-requires returns outside-requires-2 returns-2 returns-3)

@@ -1,0 +1,166 @@
+// Runs "Entry error" at the ends of its inputs, and over the source's Table 1. The file `stdout` is
+// not this program's output: its edge cases are worked out from document 01's definitions, and its
+// last 32 lines are transcribed from the source.
+ghost use Prim.Native.Nat.{_<_, _≤_};
+use entry::ErrorAnswer;
+use entry::best_field;
+use entry::entry_error;
+use entry::entry_of;
+use libc::STDOUT_FILENO;
+use units::Error;
+use units::Interval;
+
+// k and m: below the widths, their ends, above them.
+const WIDTHS: [u32; 4] = [0, 1, 15, 16];
+
+// For each of those k the first interval, the last one, the one past it, and the largest number.
+const PLACES: [u32; 16] = [
+    0,
+    0,
+    1,
+    4294967295,
+    0,
+    1,
+    2,
+    4294967295,
+    0,
+    32767,
+    32768,
+    4294967295,
+    0,
+    65535,
+    65536,
+    4294967295,
+];
+
+// For each of those m the first field, the last one, the one past it, and the largest cell.
+const FIELDS: [u16; 16] = [
+    0,
+    0,
+    1,
+    65535,
+    0,
+    1,
+    2,
+    65535,
+    0,
+    32767,
+    32768,
+    65535,
+    0,
+    65534,
+    65535,
+    65535,
+];
+
+fn text(s: &[u8]) {
+    io::write_all(STDOUT_FILENO, s);
+}
+
+fn number(n: u64) {
+    io::print_decimal(STDOUT_FILENO, n);
+}
+
+fn signed(e: Error) {
+    if e.is_negative() {
+        text(b"-");
+    }
+    number(e.size().0);
+}
+
+// The number, n, low, high, worst and side of an answer, unused ones zero.
+fn answer(a: ErrorAnswer) {
+    match a {
+        ErrorAnswer::Done(e) => {
+            text(b"0 0 ");
+            signed(e.low);
+            text(b" ");
+            signed(e.high);
+            text(b" ");
+            number(e.worst.0);
+            text(b" ");
+            let s = e.side;
+            number(s.number() as u64);
+        }
+        ErrorAnswer::TooWide(n) => {
+            text(b"5 ");
+            number(n.0 as u64);
+            text(b" 0 0 0 0");
+        }
+        ErrorAnswer::Refused(r) => {
+            number(r.number() as u64);
+            text(b" 0 0 0 0 0");
+        }
+    }
+}
+
+fn edge(k: u32, m: u32, n: u32, f: u16) {
+    number(k as u64);
+    text(b" ");
+    number(m as u64);
+    text(b" ");
+    number(n as u64);
+    text(b" ");
+    number(f as u64);
+    text(b": ");
+    answer(entry_error(k, m, Interval(n), f));
+    text(b"\n");
+}
+
+// The case c of 4 times 4 widths, 4 places and 4 fields.
+fn edge_case(c: usize)
+    requires { ⌜ c < 256 ⌝ }
+{
+    let a = c / 64;
+    let b = c / 16 % 4;
+    edge(
+        WIDTHS[a],
+        WIDTHS[b],
+        PLACES[4 * a + c / 4 % 4],
+        FIELDS[4 * b + c % 4],
+    );
+}
+
+// "63/64 (-31,32]": a row's entry and its relative error interval, as Table 1 prints them.
+fn entry(m: u32, n: u32)
+    requires { ⌜ (m ≤ 6) × (n < 32) ⌝ }
+{
+    let f = best_field(5, m, Interval(n));
+    number(entry_of(m, f).0 as u64);
+    text(b"/");
+    number(units::power(m + 1));
+    text(b" (");
+    match entry_error(5, m, Interval(n), f) {
+        ErrorAnswer::Done(e) => {
+            signed(e.low);
+            text(b",");
+            signed(e.high);
+        }
+        _ => text(b"?"),
+    }
+    text(b"]");
+}
+
+// A line of Table 1: the interval, and its entry of 5 and of 6 bits.
+fn row(n: u32)
+    requires { ⌜ n < 32 ⌝ }
+{
+    text(b"[");
+    number(32 + n as u64);
+    text(b"/32,");
+    number(33 + n as u64);
+    text(b"/32) ");
+    entry(5, n);
+    text(b" ");
+    entry(6, n);
+    text(b"\n");
+}
+
+fn main() {
+    for c in 0..256 {
+        edge_case(c);
+    }
+    for n in 0..32 {
+        row(n);
+    }
+}
