@@ -34,9 +34,12 @@ reported (Done e) =
 reported (TooWide n) = refused (back 5 (n .0))
 reported (Refused r) = refused (back (refusalNumber r) 0)
 
--- "Lookup and entry error look at their one field and name its n": 1, 2, 4 for n, 5
+-- 1, 2, 4 for n, then 5: "Lookup and entry error look at their one field and name its n"
+abbrev pub placeTests : ℕ → ℕ → ℕ → List Test
+placeTests k m n = widthTests k m ++ (place k n ∷ [])
+
 abbrev pub entryTests : ℕ → ℕ → ℕ → ℕ → List Test
-entryTests k m n f = widthTests k m ++ (place k n ∷ tooWide m n f ∷ [])
+entryTests k m n f = placeTests k m n ++ (tooWide m n f ∷ [])
 
 abbrev pub entryErrors : ℕ → ℕ → ℕ → Report
 entryErrors u i j = record { number = 0; n = 0; low = low u i j; high = high u i j; worst = worst u i j; side = side u i j }

@@ -6,8 +6,8 @@ mod measure;
 mod numbers;
 
 pub use call::ErrorAnswer;
-pub use call::admission;
 pub use call::entry_error;
+pub use call::placed;
 pub use choice::best;
 pub use choice::best_field;
 pub use choice::is_best;

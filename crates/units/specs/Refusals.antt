@@ -2,11 +2,11 @@
 use Prim.Native.Nat.{ℕ, _^_}
 use mathlib.Core.Bool.{Bool, _||_, cond}
 use mathlib.Core.List.{List, [], _∷_}
-use lib.Dec.{ltb, leb}
+use lib.Dec.{ltb, leb, eqb}
 use Rattle.units.specs.declared.refusals.Refusal.{Refusal}
 use Rattle.units.specs.declared.refusals.Refusal.the-variants.{InputWidth, OutputWidth, FewCells, Place, Divisor, Line}
-use Rattle.units.specs.declared.refusals.Admission.{Admission}
-use Rattle.units.specs.declared.refusals.Admission.the-variants.{Admitted, TooWide, Refused}
+use Rattle.units.specs.declared.refusals.Outcome.{Outcome}
+use Rattle.units.specs.declared.refusals.Outcome.the-variants.{Done, Refused}
 
 -- The column "No."
 abbrev pub refusalNumber : Refusal → ℕ
@@ -25,10 +25,9 @@ pub record Back : Type 0 where
 abbrev pub back : ℕ → ℕ → Back
 back number n = record { number = number; n = n }
 
--- How the tests of a call end: number 0, "done", where the call goes on
-abbrev pub backOf : Admission → Back
-backOf Admitted = back 0 0
-backOf (TooWide n) = back 5 (n .0)
+-- "0 | done", or a number only
+abbrev pub backOf : Outcome → Back
+backOf Done = back 0 0
 backOf (Refused r) = back (refusalNumber r) 0
 
 -- One test of a call: whether its reason holds (the column "When"), and what then comes back
@@ -48,6 +47,10 @@ answer refuse done (t ∷ ts) = cond (t .holds) (refuse (t .gives)) (answer refu
 abbrev pub refusal : List Test → Back
 refusal ts = answer (λ (b : Back). b) (back 0 0) ts
 
+-- the first of two
+abbrev pub thenBack : Back → Back → Back
+thenBack first second = cond (eqb (first .number) 0) second first
+
 -- x is not from least to most
 unfoldable pub outside : ℕ → ℕ → ℕ → Bool
 outside least most x = ltb x least || ltb most x
@@ -60,13 +63,29 @@ inputWidth k = test (outside 1 15 k) (back 1 0)
 abbrev pub outputWidth : ℕ → Test
 outputWidth m = test (outside 1 15 m) (back 2 0)
 
+-- 3: "fewer than 2^k cells lent", or fewer than a bank has
+abbrev pub fewCells : ℕ → ℕ → Test
+fewCells lent needed = test (ltb lent needed) (back 3 0)
+
+-- 4: "h > k"
+abbrev pub bankHeight : ℕ → ℕ → Test
+bankHeight k h = test (ltb k h) (back 4 0)
+
+-- 4: "b >= 2^h"
+abbrev pub bankNumber : ℕ → ℕ → Test
+bankNumber h b = test (leb (2 ^ h) b) (back 4 0)
+
 -- 4: "n >= 2^k"
 abbrev pub place : ℕ → ℕ → Test
 place k n = test (leb (2 ^ k) n) (back 4 0)
 
--- 5: "a field >= 2^m", here the one field f of interval n: "number and the smallest such n"
+-- 5: "a field >= 2^m", here the field f of interval n: "number and the smallest such n"
 abbrev pub tooWide : ℕ → ℕ → ℕ → Test
 tooWide m n f = test (leb (2 ^ m) f) (back 5 n)
+
+-- 6: "X below 32768 or above 65535"
+abbrev pub divisor : ℕ → Test
+divisor x = test (outside 32768 65535 x) (back 6 0)
 
 -- the tests of every call that takes both widths begin so
 abbrev pub widthTests : ℕ → ℕ → List Test

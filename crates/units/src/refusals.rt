@@ -1,9 +1,15 @@
+// The refusal table of document 01: its numbers, and each of its tests, once.
 ghost use mathlib.Core.Path.{_≡_};
-ghost use Rattle.units.specs.Refusals.{backOf, refusalNumber, refusal, widthTests, outside as «is-outside»};
-use crate::kinds::Interval;
+ghost use mathlib.Core.List.{[], _∷_};
+ghost use Prim.Native.Nat.{_^_};
+ghost use lib.Dec.{leb};
+ghost use Rattle.units.specs.Refusals.{test, back, backOf, refusalNumber, refusal, thenBack, outside, inputWidth, outputWidth, fewCells, bankHeight, bankNumber, place, divisor, widthTests};
 
-// The refusals of document 01 that give a number only. Number 5 names an interval besides, so it
-// stands beside them in every answer.
+use crate::kinds::Interval;
+use crate::powers::power;
+
+// The refusals that give a number only. Number 5 names an interval besides, so it stands beside them
+// in every answer.
 pub enum Refusal {
     // 1: k is not from 1 to 15.
     InputWidth,
@@ -35,32 +41,122 @@ impl Refusal {
     }
 }
 
-// How the tests of a call end: it may go on, or it answers one of document 01's numbers.
-pub enum Admission {
-    Admitted,
-    TooWide(Interval),
+// The answer of a call that gives a number only, and of every list of tests: "done", or the refusal.
+pub enum Outcome {
+    Done,
     Refused(Refusal),
 }
 
-// Whether x lies below least or above most.
-pub fn outside(least: u32, most: u32, x: u32) -> bool
-    ensures { λ r. ⌜ r ≡ «is-outside» least most x ⌝ }
-{
-    if x < least {
-        return true;
+impl Outcome {
+    // Document 01's number for it.
+    pub fn number(self) -> u32
+        ensures { λ r. ⌜ r ≡ backOf self .number ⌝ }
+    {
+        match self {
+            Outcome::Done => 0,
+            Outcome::Refused(r) => r.number(),
+        }
     }
-    most < x
+
+    // The tests that ended so, and after them those that ended in next: the first refusal counts.
+    pub fn then(self, next: Outcome) -> Outcome
+        ensures { λ r. ⌜ backOf r ≡ thenBack (backOf self) (backOf next) ⌝ }
+    {
+        match self {
+            Outcome::Done => next,
+            Outcome::Refused(r) => Outcome::Refused(r),
+        }
+    }
 }
 
-// The tests 1 and 2, for every call that takes both widths.
-pub fn widths(k: u32, m: u32) -> Admission
+fn refused_if(holds: bool, r: Refusal) -> Outcome
+    ensures { λ o. ⌜ backOf o ≡ refusal (test holds (back (refusalNumber r) 0) ∷ []) ⌝ }
+{
+    if holds { Outcome::Refused(r) } else { Outcome::Done }
+}
+
+// Refused unless x is from least to most.
+fn refused_outside(least: u32, most: u32, x: u32, r: Refusal) -> Outcome
+    ensures { λ o. ⌜ backOf o ≡ refusal (test (outside least most x) (back (refusalNumber r) 0) ∷ []) ⌝ }
+{
+    if x < least {
+        return Outcome::Refused(r);
+    }
+    refused_if(most < x, r)
+}
+
+// Whether x is 2^w or more, for any w.
+pub fn reaches(w: u32, x: u64) -> bool
+    ensures { λ r. ⌜ r ≡ leb (2 ^ w) x ⌝ }
+{
+    if 63 < w {
+        return false;
+    }
+    power(w) <= x
+}
+
+// Refused if x is 2^w or more.
+fn refused_past(w: u32, x: u64, r: Refusal) -> Outcome
+    ensures { λ o. ⌜ backOf o ≡ refusal (test (leb (2 ^ w) x) (back (refusalNumber r) 0) ∷ []) ⌝ }
+{
+    refused_if(reaches(w, x), r)
+}
+
+// 1: "k not 1..15".
+pub fn input_width(k: u32) -> Outcome
+    ensures { λ r. ⌜ backOf r ≡ refusal (inputWidth k ∷ []) ⌝ }
+{
+    refused_outside(1, 15, k, Refusal::InputWidth)
+}
+
+// 2: "m not 1..15".
+pub fn output_width(m: u32) -> Outcome
+    ensures { λ r. ⌜ backOf r ≡ refusal (outputWidth m ∷ []) ⌝ }
+{
+    refused_outside(1, 15, m, Refusal::OutputWidth)
+}
+
+// 3: fewer than 2^w cells lent.
+pub fn few_cells(lent: usize, w: u32) -> Outcome
+    ensures { λ r. ⌜ backOf r ≡ refusal (fewCells lent (2 ^ w) ∷ []) ⌝ }
+{
+    if reaches(w, lent as u64) {
+        return Outcome::Done;
+    }
+    Outcome::Refused(Refusal::FewCells)
+}
+
+// 4: "h > k".
+pub fn bank_height(k: u32, h: u32) -> Outcome
+    ensures { λ r. ⌜ backOf r ≡ refusal (bankHeight k h ∷ []) ⌝ }
+{
+    refused_if(k < h, Refusal::Place)
+}
+
+// 4: "b >= 2^h".
+pub fn bank_number(h: u32, b: u32) -> Outcome
+    ensures { λ r. ⌜ backOf r ≡ refusal (bankNumber h b ∷ []) ⌝ }
+{
+    refused_past(h, b as u64, Refusal::Place)
+}
+
+// 4: "n >= 2^k".
+pub fn interval_place(k: u32, n: Interval) -> Outcome
+    ensures { λ r. ⌜ backOf r ≡ refusal (place k (n .0) ∷ []) ⌝ }
+{
+    refused_past(k, n.0 as u64, Refusal::Place)
+}
+
+// 6: "X below 32768 or above 65535".
+pub fn divisor_range(x: u32) -> Outcome
+    ensures { λ r. ⌜ backOf r ≡ refusal (divisor x ∷ []) ⌝ }
+{
+    refused_outside(32768, 65535, x, Refusal::Divisor)
+}
+
+// 1 and 2, with which every call that takes both widths begins.
+pub fn widths(k: u32, m: u32) -> Outcome
     ensures { λ r. ⌜ backOf r ≡ refusal (widthTests k m) ⌝ }
 {
-    if outside(1, 15, k) {
-        return Admission::Refused(Refusal::InputWidth);
-    }
-    if outside(1, 15, m) {
-        return Admission::Refused(Refusal::OutputWidth);
-    }
-    Admission::Admitted
+    input_width(k).then(output_width(m))
 }

@@ -2,11 +2,11 @@
 use Prim.Native.Nat.{ℕ, _≤_, _<_}
 use mathlib.Core.Bool.{Bool, true, false, cond, _||_, false≢true}
 use mathlib.Core.List.{List, [], _∷_, _++_}
-use mathlib.Core.Path.{_≡_, refl, sym, ap, _∙_}
+use mathlib.Core.Path.{_≡_, refl, sym, ap, ap₂, _∙_}
 use native.Mathlib.Omega.{arith}
-use borrow.Author.Tests.{ltb-false}
+use borrow.Author.Tests.{ltb-false, ne-eqb}
 use lib.Dec.{T, ltb}
-use Rattle.units.specs.Refusals.{Back, back, refusalNumber, Test, answer, refusal, outside}
+use Rattle.units.specs.Refusals.{Back, back, refusalNumber, Test, answer, refusal, thenBack, outside}
 use Rattle.units.specs.declared.refusals.Refusal.{Refusal}
 use Rattle.units.specs.declared.refusals.Refusal.the-variants.{InputWidth, OutputWidth, FewCells, Place, Divisor, Line}
 
@@ -27,6 +27,29 @@ refusal-numbered FewCells = omega arith
 refusal-numbered Place = omega arith
 refusal-numbered Divisor = omega arith
 refusal-numbered Line = omega arith
+
+-- tests that refuse, with others after them
+pub then-refused : (r : Refusal) (next : Back) → back (refusalNumber r) 0 ≡ thenBack (back (refusalNumber r) 0) next
+then-refused r next = simp (ne-eqb (refusalNumber r) 0 (λ e. omega (arith, refusal-numbered r)))
+
+-- one list of tests, and another after it
+then-joins : (ts rest : List Test) → Numbered ts → refusal (ts ++ rest) ≡ thenBack (refusal ts) (refusal rest)
+unfolding answer
+then-joins [] rest p = refl
+then-joins (t ∷ ts) rest p = join (t .holds) (t .gives) (p .0) (refusal (ts ++ rest)) (refusal ts) (then-joins ts rest (p .1))
+  where
+    join : (holds : Bool) (gives : Back) → 0 < gives .number → (all some : Back) → all ≡ thenBack some (refusal rest)
+        → cond holds gives all ≡ thenBack (cond holds gives some) (refusal rest)
+    join true gives h all some e = sym (simp (ne-eqb (gives .number) 0 (λ z. omega arith)))
+    join false gives h all some e = e
+
+pub then-is : (ts rest : List Test) → Numbered ts → {a b both : Back} → both ≡ thenBack a b → a ≡ refusal ts → b ≡ refusal rest
+    → both ≡ refusal (ts ++ rest)
+then-is ts rest p e a b = e ∙ ap₂ thenBack a b ∙ sym (then-joins ts rest p)
+
+pub passed-also : (ts rest : List Test) → Passed ts → Passed rest → Passed (ts ++ rest)
+passed-also [] rest p q = q
+passed-also (t ∷ ts) rest p q = (p .0, passed-also ts rest (p .1) q)
 
 -- where every test passes the call is done
 pub done-by : {A : Type 0} (refuse : Back → A) (done : A) (ts : List Test) → Passed ts → done ≡ answer refuse done ts
@@ -52,6 +75,13 @@ refused-first refuse done (t ∷ ts) rest h =
 pub refused-by : {A : Type 0} (refuse : Back → A) (done : A) (ts rest : List Test) {b : Back} → b ≡ refusal ts → 0 < b .number
     → refuse b ≡ answer refuse done (ts ++ rest)
 refused-by refuse done ts rest e h = ap refuse e ∙ sym (refused-first refuse done ts rest (rw e at h))
+
+-- where the first that does not pass comes after others
+pub refused-after : {A : Type 0} (refuse : Back → A) (done : A) (ts : List Test) (t : Test) (rest : List Test) → Passed ts → t .holds ≡ true
+    → refuse (t .gives) ≡ answer refuse done (ts ++ (t ∷ rest))
+unfolding answer
+refused-after refuse done [] t rest p e = rw e
+refused-after refuse done (s ∷ ts) t rest p e = rw (p .0) (refused-after refuse done ts t rest (p .1) e)
 
 -- number 0 says that no reason holds
 first-passed : (holds : Bool) (gives after : Back) → 0 < gives .number → cond holds gives after .number ≡ 0

@@ -1,0 +1,4 @@
+pub mod Rows
+pub mod Banks
+pub mod Whole
+pub mod Lookup

@@ -1,0 +1,3 @@
+pub mod Banks
+pub mod Build
+pub mod Lookup

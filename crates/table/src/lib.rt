@@ -1,0 +1,12 @@
+// Tables of fields: building one or a bank of it, showing a bank, looking a divisor up.
+mod banks;
+mod builders;
+mod lookups;
+mod views;
+
+pub use builders::build;
+pub use builders::build_bank;
+pub use lookups::LookupAnswer;
+pub use lookups::look_up;
+pub use views::show_bank;
+pub use views::show_bank_number;
