@@ -29,3 +29,8 @@ bankTests k m h b lent = widthTests k m ++ bankPlace k h b lent
 abbrev pub bankBuilt : ℕ → ℕ → ℕ → ℕ → List ℕ → List ℕ
 bankBuilt k m h b cells =
     answer (λ (_ : Back). cells) (filled k m (bankStart k h b) (bankSize k h) cells) (bankTests k m h b (length cells))
+
+-- the banks of a list of numbers, built one after the other
+unfoldable pub banksBuilt : ℕ → ℕ → ℕ → List ℕ → List ℕ → List ℕ
+banksBuilt k m h [] cells = cells
+banksBuilt k m h (b ∷ bs) cells = banksBuilt k m h bs (bankBuilt k m h b cells)

@@ -3,7 +3,6 @@ ghost use mathlib.Core.Path.{_≡_};
 ghost use Prim.Native.Nat.{_+_, _≤_, _<_, _^_};
 ghost use Rattle.units.specs.Refusals.{backOf, refusal};
 ghost use Rattle.table.specs.Banks.{bankSize, bankStart, bankPlace};
-
 use units::Outcome;
 use units::bank_height;
 use units::bank_number;

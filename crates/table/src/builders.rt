@@ -4,14 +4,12 @@ ghost use Prim.Native.Nat.{_+_, _≤_, _^_};
 ghost use lib.ListN.{length};
 ghost use Rattle.units.specs.Refusals.{backOf, refusal};
 ghost use Rattle.table.specs.Build.{rows, buildTests, built, bankTests, bankBuilt};
-
+use crate::banks::bank_at;
+use crate::banks::bank_in_table;
 use entry::best_field;
 use units::Interval;
 use units::Outcome;
 use units::widths;
-
-use crate::banks::bank_in_table;
-use crate::banks::bank_at;
 
 // Writes the rule's field of each interval from first on into a cell of its own. One division a cell.
 fn fill(k: u32, m: u32, first: u32, cells: &mut [u16])

@@ -3,7 +3,6 @@ ghost use mathlib.Core.Path.{_≡_};
 ghost use Prim.Native.Nat.{_≤_, _<_, _^_};
 ghost use Rattle.units.specs.Refusals.{backOf, refusal};
 ghost use Rattle.table.specs.Lookup.{indexOf, divisorTests, reported, lookupReport};
-
 use entry::entry_of;
 use units::Entry;
 use units::Interval;
@@ -33,9 +32,7 @@ fn index_of(k: u32, x: u32) -> usize
 fn findable(k: u32, m: u32, x: u32, lent: usize) -> Outcome
     ensures { λ r. ⌜ backOf r ≡ refusal (divisorTests k m x lent) ⌝ }
 {
-    widths(k, m)
-        .then(few_cells(lent, k))
-        .then(divisor_range(x))
+    widths(k, m).then(few_cells(lent, k)).then(divisor_range(x))
 }
 
 // "Look up takes a divisor X from 32768 to 65535, which means x = X/32768 .. It gives n and j; of all

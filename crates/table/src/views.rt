@@ -3,12 +3,10 @@ ghost use mathlib.Core.Path.{_≡_};
 ghost use lib.ListN.{length};
 ghost use Rattle.units.specs.Refusals.{backOf, refusal};
 ghost use Rattle.table.specs.Banks.{viewTests, shown};
-
+use crate::banks::bank_at;
+use crate::banks::bank_in_table;
 use units::Outcome;
 use units::input_width;
-
-use crate::banks::bank_in_table;
-use crate::banks::bank_at;
 
 fn viewable(k: u32, h: u32, b: u32, lent: usize) -> Outcome
     ensures { λ r. ⌜ backOf r ≡ refusal (viewTests k h b lent) ⌝ }

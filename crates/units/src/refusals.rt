@@ -4,7 +4,6 @@ ghost use mathlib.Core.List.{[], _∷_};
 ghost use Prim.Native.Nat.{_^_};
 ghost use lib.Dec.{leb};
 ghost use Rattle.units.specs.Refusals.{test, back, backOf, refusalNumber, refusal, thenBack, outside, inputWidth, outputWidth, fewCells, bankHeight, bankNumber, place, divisor, widthTests};
-
 use crate::kinds::Interval;
 use crate::powers::power;
 
@@ -72,7 +71,11 @@ impl Outcome {
 fn refused_if(holds: bool, r: Refusal) -> Outcome
     ensures { λ o. ⌜ backOf o ≡ refusal (test holds (back (refusalNumber r) 0) ∷ []) ⌝ }
 {
-    if holds { Outcome::Refused(r) } else { Outcome::Done }
+    if holds {
+        Outcome::Refused(r)
+    } else {
+        Outcome::Done
+    }
 }
 
 // Refused unless x is from least to most.

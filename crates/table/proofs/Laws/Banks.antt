@@ -18,11 +18,11 @@ pub record Placed (k h b lent : ℕ) : Type 0 where
 
 pub placed-bank : (k h b lent : ℕ) → Passed (bankPlace k h b lent) → Placed k h b lent
 placed-bank k h b lent p =
-    record
-      { low = ltb-false k h (p .0)
-      ; number = leb-false (2 ^ h) b (p .1 .0)
-      ; lent-all = ltb-false lent (2 ^ k) (p .1 .1 .0)
-      }
+    record {
+      low = ltb-false k h (p .0);
+      number = leb-false (2 ^ h) b (p .1 .0);
+      lent-all = ltb-false lent (2 ^ k) (p .1 .1 .0);
+    }
 
 pub bank-within : (k h b : ℕ) → h ≤ k → b < 2 ^ h → bankStart k h b + bankSize k h ≤ 2 ^ k
 bank-within k h b l p = omega (arith, power-splits l, mul-le-mul-right (bankSize k h) p)
@@ -38,9 +38,9 @@ pub bank-ends : {k h b lent first end : ℕ} → k ≤ 15 → Placed k h b lent
     → (first ≡ bankStart k h b) × (end ≡ bankStart k h b + bankSize k h)
     → Ends k first end lent
 bank-ends {k} {h} {b} narrow placed at =
-    record
-      { ordered = omega (arith, at .0, at .1)
-      ; in-table = omega (arith, at .1, bank-within k h b (placed .low) (placed .number))
-      ; lent-all = placed .lent-all
-      ; small = pow-mono narrow
-      }
+    record {
+      ordered = omega (arith, at .0, at .1);
+      in-table = omega (arith, at .1, bank-within k h b (placed .low) (placed .number));
+      lent-all = placed .lent-all;
+      small = pow-mono narrow;
+    }

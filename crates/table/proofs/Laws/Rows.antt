@@ -1,10 +1,10 @@
 -- The rule's fields as a list that grows by one. Assumes nothing.
-use Prim.Native.Nat.{ℕ, zero, suc, _+_, _≤_, _<_}
+use Prim.Native.Nat.{ℕ, zero, suc, _+_, _-_, _≤_, _<_}
 use mathlib.Core.List.{List, [], _∷_, _++_}
-use mathlib.Core.Path.{_≡_, refl, ap}
+use mathlib.Core.Path.{_≡_, refl, ap, _∙_}
 use native.Mathlib.Omega.{arith}
-use lib.ListN.{length, take, drop, set, getD, length-take, length-drop}
-use lib.Seq.{drop-cons, drop-drop, set-at}
+use lib.ListN.{length, take, drop, set, getD, length-append, length-take, length-drop, List·getD-append}
+use lib.Seq.{drop-cons, drop-drop, set-at, length-take-le, getD-take, getD-drop, getD-append-add}
 use Rattle.entry.specs.Rule.{ruleField}
 use Rattle.table.specs.Build.{rows, filled}
 
@@ -37,3 +37,42 @@ pub filled-part : (k m first count : ℕ) (cells part : List ℕ) → first + co
 filled-part k m first count cells part h e =
     let long : length (take count (drop first cells)) ≡ count = simp (length-take, length-drop) (omega arith) in
     rw (e, long, drop-drop)
+
+-- the cells of a table with a filled stretch, one by one
+getD-rows : (k m n count : ℕ) (rest : List ℕ) (i : ℕ) → i < count → getD (rows k m n count ++ rest) i 0 ≡ ruleField k m (n + i)
+unfolding rows
+getD-rows k m n zero rest i h = absurd (omega arith)
+getD-rows k m n (suc count) rest zero h = ap (ruleField k m) (omega arith)
+getD-rows k m n (suc count) rest (suc i) h =
+    getD-rows k m (suc n) count rest i (omega arith) ∙ ap (ruleField k m) (omega arith)
+
+past : (xs ys : List ℕ) (n i : ℕ) → length xs ≡ n → n ≤ i → getD (xs ++ ys) i 0 ≡ getD ys (i - n) 0
+past xs ys n i e h =
+    let at : i ≡ length xs + (i - n) = omega arith in
+    rw at (getD-append-add xs ys (i - n) 0 ∙ ap (λ (x : ℕ). getD ys x 0) (omega arith))
+
+module _ (k m first count : ℕ) (cells : List ℕ) (fits : first + count ≤ length cells) where
+  pub length-filled : length (filled k m first count cells) ≡ length cells
+  length-filled = simp (length-append, length-take, length-drop, length-rows) (omega arith)
+
+  front : length (take first cells) ≡ first
+  front = length-take-le first cells (omega arith)
+
+  behind : (i : ℕ) → first ≤ i → getD (filled k m first count cells) i 0 ≡ getD (rows k m first count ++ drop (first + count) cells) (i - first) 0
+  behind i l = past (take first cells) (rows k m first count ++ drop (first + count) cells) first i front l
+
+  pub filled-in : (i : ℕ) → first ≤ i → i < first + count → getD (filled k m first count cells) i 0 ≡ ruleField k m i
+  filled-in i l h =
+      behind i l ∙ getD-rows k m first count (drop (first + count) cells) (i - first) (omega arith) ∙ ap (ruleField k m) (omega arith)
+
+  pub filled-before : (i : ℕ) → i < first → getD (filled k m first count cells) i 0 ≡ getD cells i 0
+  filled-before i h =
+      List·getD-append (take first cells) (rows k m first count ++ drop (first + count) cells) 0 i (omega (arith, front))
+      ∙ getD-take first cells i 0 h
+
+  pub filled-after : (i : ℕ) → first + count ≤ i → getD (filled k m first count cells) i 0 ≡ getD cells i 0
+  filled-after i h =
+      behind i (omega arith)
+      ∙ past (rows k m first count) (drop (first + count) cells) count (i - first) (length-rows k m first count) (omega arith)
+      ∙ getD-drop (first + count) cells (i - first - count) 0
+      ∙ ap (λ (x : ℕ). getD cells x 0) (omega arith)

@@ -5,9 +5,11 @@ use mathlib.Core.Bool.{cond}
 use mathlib.Core.Path.{_≡_, refl, sym, ap, _∙_}
 use lib.Dec.{eqb}
 use Rattle.units.specs.Sides.{sideNumber}
-use Rattle.units.specs.Refusals.{refusalNumber}
+use Rattle.units.specs.Refusals.{Back, backOf, refusalNumber}
 use Rattle.units.specs.declared.kinds.Side.{Side}
 use Rattle.units.specs.declared.kinds.Side.the-variants.{Left, Right, Both}
+use Rattle.units.specs.declared.refusals.Outcome.{Outcome}
+use Rattle.units.specs.declared.refusals.Outcome.the-variants.{Done, Refused}
 use Rattle.units.specs.declared.refusals.Refusal.{Refusal}
 use Rattle.units.specs.declared.refusals.Refusal.the-variants.{InputWidth, OutputWidth, FewCells, Place, Divisor, Line}
 
@@ -40,3 +42,14 @@ refused-reads FewCells done wide refused = refl
 refused-reads Place done wide refused = refl
 refused-reads Divisor done wide refused = refl
 refused-reads Line done wide refused = refl
+
+outcomeOf : Back → Outcome
+outcomeOf b = byNumber (b .number) Done Done Refused
+
+outcome-reads : (o : Outcome) → outcomeOf (backOf o) ≡ o
+unfolding outcomeOf
+outcome-reads Done = refl
+outcome-reads (Refused r) = refused-reads r Done Done Refused
+
+pub outcome-one-to-one : (a b : Outcome) → backOf a ≡ backOf b → a ≡ b
+outcome-one-to-one = one-to-one backOf outcomeOf outcome-reads

@@ -89,7 +89,7 @@ first-passed : (holds : Bool) (gives after : Back) → 0 < gives .number → con
 first-passed true gives after p e = absurd (omega arith)
 first-passed false gives after p e = (refl, e)
 
-all-passed : (ts : List Test) → Numbered ts → refusal ts .number ≡ 0 → Passed ts
+pub all-passed : (ts : List Test) → Numbered ts → refusal ts .number ≡ 0 → Passed ts
 unfolding answer
 all-passed [] p e = tt
 all-passed (t ∷ ts) p e =

@@ -27,7 +27,7 @@ reaches-requires c κs = search needs
 -- widths and place are good
 good : (c : tie.After-enum-told)
     → Passed
-      (placeTests (c .before .before .before .args .k) (c .before .before .before .args .m) (c .before .before .before .args .n .0))
+    (placeTests (c .before .before .before .args .k) (c .before .before .before .args .m) (c .before .before .before .args .n .0))
 good c = passed _ (omega arith) (sym (ap backOf (c .enum-told .given .1)) ∙ c .before .before .placed .ensures)
 
 returns : tie.Need-returns
@@ -39,11 +39,11 @@ returns c =
 -- and so is the field
 admitted : (c : tie.Else1)
     → Passed
-      (entryTests
-        (c .before .before .before .before .before .args .k)
-        (c .before .before .before .before .before .args .m)
-        (c .before .before .before .before .before .args .n .0)
-        (c .before .before .before .before .before .args .f))
+    (entryTests
+    (c .before .before .before .before .before .args .k)
+    (c .before .before .before .before .before .args .m)
+    (c .before .before .before .before .before .args .n .0)
+    (c .before .before .before .before .before .args .f))
 admitted c =
     let args = c .before .before .before .before .before .args in
     passed-also (placeTests (args .k) (args .m) (args .n .0)) (tooWide (args .m) (args .n .0) (args .f) ∷ []) (good (c .before .before))

@@ -16,9 +16,10 @@ same-length c = search needs
 returns : tie.Need-returns
 returns c =
     let args = c .before .before .before .before .before .args in
-    let bank = c .before .before .build-bank .ensures in
-    (bank .0 ∙ whole-tests (λ (b : Back). b) (back 0 0) (args .k) (args .m) (length (args .table .now)),
-    bank .1 ∙ whole-built (args .k) (args .m) (args .table .now))
+    let bank = c .before .before .build-bank .ensures in (
+      bank .0 ∙ whole-tests (λ (b : Back). b) (back 0 0) (args .k) (args .m) (length (args .table .now)),
+      bank .1 ∙ whole-built (args .k) (args .m) (args .table .now),
+    )
 
 pub build-spec : {M : Type 1} → statement M
 build-spec = tie.close (tie.spec build-bank-requires same-length returns)

@@ -26,12 +26,12 @@ enum-told c = search needs
 -- every test passed
 good : (c : tie.After-enum-told)
     → Passed
-      (bankTests
-        (c .before .before .before .before .args .k)
-        (c .before .before .before .before .args .m)
-        (c .before .before .before .before .args .h)
-        (c .before .before .before .before .args .b)
-        (length (c .before .before .before .before .args .table .now)))
+    (bankTests
+    (c .before .before .before .before .args .k)
+    (c .before .before .before .before .args .m)
+    (c .before .before .before .before .args .h)
+    (c .before .before .before .before .args .b)
+    (length (c .before .before .before .before .args .table .now)))
 good c = passed _ (omega arith) (sym (ap backOf (c .enum-told .given .1)) ∙ c .before .before .buildable .ensures)
 
 narrow : (c : tie.After-enum-told)
@@ -82,11 +82,12 @@ returns-2 c =
     let args = after .before .before .before .before .before .args in
     let tests = good (after .before) in
     let bank = after .bank-at .result in
-    let at = after .bank-at .ensures in
-    (done-by (λ (b : Back). b) (back 0 0) (bankTests _ _ _ _ _) tests,
-    filled-part (args .k) (args .m) (bank .first) (bank .end - bank .first) (args .table .now) _ (omega (arith, ends after)) (c .before .before .fill .ensures)
-    ∙ ap₂ (λ (first count : ℕ). filled (args .k) (args .m) first count (args .table .now)) (at .0) (omega (arith, at .0, at .1))
-    ∙ done-by (λ (_ : Back). args .table .now) _ (bankTests _ _ _ _ _) tests)
+    let at = after .bank-at .ensures in (
+      done-by (λ (b : Back). b) (back 0 0) (bankTests _ _ _ _ _) tests,
+      filled-part (args .k) (args .m) (bank .first) (bank .end - bank .first) (args .table .now) _ (omega (arith, ends after)) (c .before .before .fill .ensures)
+          ∙ ap₂ (λ (first count : ℕ). filled (args .k) (args .m) first count (args .table .now)) (at .0) (omega (arith, at .0, at .1))
+          ∙ done-by (λ (_ : Back). args .table .now) _ (bankTests _ _ _ _ _) tests,
+    )
 
 pub build-bank-spec : {M : Type 1} → statement M
 build-bank-spec =

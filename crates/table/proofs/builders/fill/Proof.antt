@@ -52,11 +52,14 @@ loop-again : tie.Need-loop-again Inv-loop μ-loop
 loop-again c =
     let inv = c .before .before .loop .inv in
     let start = c .before .before .before .before in
-    let here : c .before .before .loop .at < length (start .args .cells .now) = omega arith in
-    (omega arith,
-    (simp length-set (inv .1 .0),
-    rw (inv .1 .1, c .best-field .ensures, add-one (c .before .before .loop .at))
-    (rows-step (start .args .k) (start .args .m) (start .args .first) (start .args .cells .now) here)))
+    let here : c .before .before .loop .at < length (start .args .cells .now) = omega arith in (
+      omega arith,
+      (
+        simp length-set (inv .1 .0),
+        rw (inv .1 .1, c .best-field .ensures, add-one (c .before .before .loop .at))
+            (rows-step (start .args .k) (start .args .m) (start .args .first) (start .args .cells .now) here),
+      ),
+    )
 
 same-length : tie.Need-same-length Inv-loop μ-loop
 same-length c = c .before .loop .inv .1 .0

@@ -26,11 +26,11 @@ enum-told c = search needs
 -- every test but that of the field passed
 good : (c : tie.After-enum-told)
     → Passed
-      (divisorTests
-        (c .before .before .before .before .args .k)
-        (c .before .before .before .before .args .m)
-        (c .before .before .before .before .args .x)
-        (length (c .before .before .before .before .args .table .now)))
+    (divisorTests
+    (c .before .before .before .before .args .k)
+    (c .before .before .before .before .args .m)
+    (c .before .before .before .before .args .x)
+    (length (c .before .before .before .before .args .table .now)))
 good c = passed _ (omega arith) (sym (ap backOf (c .enum-told .given .1)) ∙ c .before .before .findable .ensures)
 
 index-of-requires : tie.Need-index-of-requires
@@ -46,12 +46,13 @@ below c =
     let tests = good (c .before) in
     let narrow = not-outside 1 15 (args .k) (tests .0) .1 in
     let x = not-outside 32768 65535 (args .x) (tests .1 .1 .1 .0) in
-    omega
-    (arith,
-    c .index-of .ensures,
-    index-below (args .k) (args .x) narrow (x .0) (omega arith),
-    ltb-false (length (args .table .now)) (2 ^ args .k) (tests .1 .1 .0),
-    pow-mono narrow)
+    omega (
+      arith,
+      c .index-of .ensures,
+      index-below (args .k) (args .x) narrow (x .0) (omega arith),
+      ltb-false (length (args .table .now)) (2 ^ args .k) (tests .1 .1 .0),
+      pow-mono narrow,
+    )
 
 cast-t12 : tie.Need-cast-t12
 cast-t12 c = omega (arith, below c)

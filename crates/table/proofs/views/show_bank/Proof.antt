@@ -28,11 +28,11 @@ enum-told-2 c = search needs
 -- every test passed
 good : (c : tie.After-enum-told2)
     → Passed
-      (viewTests
-        (c .before .before .before .before .args .k)
-        (c .before .before .before .before .args .h)
-        (c .before .before .before .before .args .b)
-        (length (c .before .before .before .before .args .table .now)))
+    (viewTests
+    (c .before .before .before .before .args .k)
+    (c .before .before .before .before .args .h)
+    (c .before .before .before .before .args .b)
+    (length (c .before .before .before .before .args .table .now)))
 good c = passed _ (omega arith) (sym (ap backOf (c .enum-told2 .given .1)) ∙ c .before .before .viewable .ensures)
 
 narrow : (c : tie.After-enum-told2) → c .before .before .before .before .args .k ≤ 15
