@@ -5,3 +5,4 @@ pub mod Ceiling
 pub mod Inside
 pub mod Bounds
 pub mod Report
+pub mod Wide

@@ -2,7 +2,7 @@
 use Prim.Native.Nat.{ℕ, zero, suc, _+_, _^_}
 use mathlib.Core.List.{List, [], _∷_, _++_}
 use lib.ListN.{length, take, drop}
-use Rattle.units.specs.Refusals.{Back, Test, answer, widthTests, fewCells}
+use Rattle.units.specs.Refusals.{Back, Test, answer, widthTests, tableTests}
 use Rattle.entry.specs.Rule.{ruleField}
 use Rattle.table.specs.Banks.{bankSize, bankStart, bankPlace}
 
@@ -16,11 +16,8 @@ abbrev pub filled : ℕ → ℕ → ℕ → ℕ → List ℕ → List ℕ
 filled k m first count cells = take first cells ++ (rows k m first count ++ drop (first + count) cells)
 
 -- "Build writes fields 0 to 2^k - 1. Cells after them keep their value." Refusals 1, 2, 3; "No refusal writes a cell."
-abbrev pub buildTests : ℕ → ℕ → ℕ → List Test
-buildTests k m lent = widthTests k m ++ (fewCells lent (2 ^ k) ∷ [])
-
 abbrev pub built : ℕ → ℕ → List ℕ → List ℕ
-built k m cells = answer (λ (_ : Back). cells) (filled k m 0 (2 ^ k) cells) (buildTests k m (length cells))
+built k m cells = answer (λ (_ : Back). cells) (filled k m 0 (2 ^ k) cells) (tableTests k m (length cells))
 
 -- "The call fills only that bank's cells, in their place within the lent table." Refusals 1, 2, 4 for h and b, 3
 abbrev pub bankTests : ℕ → ℕ → ℕ → ℕ → ℕ → List Test

@@ -2,7 +2,7 @@
 use Prim.Native.Nat.{ℕ, _-_, _/_, _^_}
 use mathlib.Core.List.{List, [], _∷_, _++_}
 use lib.ListN.{length, getD}
-use Rattle.units.specs.Refusals.{Back, back, Test, answer, refusalNumber, widthTests, fewCells, divisor, tooWide}
+use Rattle.units.specs.Refusals.{Back, back, Test, answer, refusalNumber, tableTests, divisor, tooWide}
 use Rattle.entry.specs.Errors.{jOf}
 use Rattle.table.specs.declared.lookups.LookupAnswer.{LookupAnswer}
 use Rattle.table.specs.declared.lookups.LookupAnswer.the-variants.{Found, TooWide, Refused}
@@ -31,7 +31,7 @@ indexOf k x = x / 2 ^ (15 - k) - 2 ^ k
 
 -- 1, 2, 3, 6, then 5 for the one field
 abbrev pub divisorTests : ℕ → ℕ → ℕ → ℕ → List Test
-divisorTests k m x lent = widthTests k m ++ (fewCells lent (2 ^ k) ∷ divisor x ∷ [])
+divisorTests k m x lent = tableTests k m lent ++ (divisor x ∷ [])
 
 abbrev pub lookupIn : ℕ → ℕ → ℕ → ℕ → ℕ → ℕ → Report
 lookupIn k m x lent n f = answer refused (found n (jOf m f)) (divisorTests k m x lent ++ (tooWide m n f ∷ []))

@@ -2,8 +2,8 @@
 ghost use mathlib.Core.Path.{_≡_};
 ghost use Prim.Native.Nat.{_+_, _≤_, _^_};
 ghost use lib.ListN.{length};
-ghost use Rattle.units.specs.Refusals.{backOf, refusal};
-ghost use Rattle.table.specs.Build.{rows, buildTests, built, bankTests, bankBuilt};
+ghost use Rattle.units.specs.Refusals.{backOf, refusal, tableTests};
+ghost use Rattle.table.specs.Build.{rows, built, bankTests, bankBuilt};
 use crate::banks::bank_at;
 use crate::banks::bank_in_table;
 use entry::best_field;
@@ -51,7 +51,7 @@ pub fn build_bank(k: u32, m: u32, h: u32, b: u32, table: &mut [u16]) -> Outcome
 // "Build writes fields 0 to 2^k - 1. Cells after them keep their value." The table is its own one
 // bank at h = 0.
 pub fn build(k: u32, m: u32, table: &mut [u16]) -> Outcome
-    ensures answer { λ r. ⌜ backOf r ≡ refusal (buildTests k m (length (now (table .entry)))) ⌝ }
+    ensures answer { λ r. ⌜ backOf r ≡ refusal (tableTests k m (length (now (table .entry)))) ⌝ }
     ensures cells { λ _. ⌜ now (table .exit) ≡ built k m (now (table .entry)) ⌝ }
 {
     build_bank(k, m, 0, 0, table)

@@ -4,6 +4,8 @@ mod builders;
 mod lookups;
 mod views;
 
+pub use banks::Stretch;
+pub use banks::bank_at;
 pub use builders::build;
 pub use builders::build_bank;
 pub use lookups::LookupAnswer;

@@ -9,10 +9,9 @@ use units::Interval;
 use units::Outcome;
 use units::Refusal;
 use units::divisor_range;
-use units::few_cells;
 use units::power;
 use units::reaches;
-use units::widths;
+use units::whole_table;
 
 // What "Look up" answers.
 pub enum LookupAnswer {
@@ -32,7 +31,7 @@ fn index_of(k: u32, x: u32) -> usize
 fn findable(k: u32, m: u32, x: u32, lent: usize) -> Outcome
     ensures { λ r. ⌜ backOf r ≡ refusal (divisorTests k m x lent) ⌝ }
 {
-    widths(k, m).then(few_cells(lent, k)).then(divisor_range(x))
+    whole_table(k, m, lent).then(divisor_range(x))
 }
 
 // "Look up takes a divisor X from 32768 to 65535, which means x = X/32768 .. It gives n and j; of all

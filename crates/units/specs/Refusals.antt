@@ -1,7 +1,7 @@
 -- Document 01, "Refusal numbers and their order". Assumes nothing.
 use Prim.Native.Nat.{ℕ, _^_}
 use mathlib.Core.Bool.{Bool, _||_, cond}
-use mathlib.Core.List.{List, [], _∷_}
+use mathlib.Core.List.{List, [], _∷_, _++_}
 use lib.Dec.{ltb, leb, eqb}
 use Rattle.units.specs.declared.refusals.Refusal.{Refusal}
 use Rattle.units.specs.declared.refusals.Refusal.the-variants.{InputWidth, OutputWidth, FewCells, Place, Divisor, Line}
@@ -90,3 +90,7 @@ divisor x = test (outside 32768 65535 x) (back 6 0)
 -- the tests of every call that takes both widths begin so
 abbrev pub widthTests : ℕ → ℕ → List Test
 widthTests k m = inputWidth k ∷ outputWidth m ∷ []
+
+-- and those of every call that takes a whole table, so: 1, 2, 3
+abbrev pub tableTests : ℕ → ℕ → ℕ → List Test
+tableTests k m lent = widthTests k m ++ (fewCells lent (2 ^ k) ∷ [])

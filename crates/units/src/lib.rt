@@ -19,4 +19,5 @@ pub use refusals::few_cells;
 pub use refusals::input_width;
 pub use refusals::interval_place;
 pub use refusals::reaches;
+pub use refusals::whole_table;
 pub use refusals::widths;

@@ -3,7 +3,7 @@ ghost use mathlib.Core.Path.{_≡_};
 ghost use mathlib.Core.List.{[], _∷_};
 ghost use Prim.Native.Nat.{_^_};
 ghost use lib.Dec.{leb};
-ghost use Rattle.units.specs.Refusals.{test, back, backOf, refusalNumber, refusal, thenBack, outside, inputWidth, outputWidth, fewCells, bankHeight, bankNumber, place, divisor, widthTests};
+ghost use Rattle.units.specs.Refusals.{test, back, backOf, refusalNumber, refusal, thenBack, outside, inputWidth, outputWidth, fewCells, bankHeight, bankNumber, place, divisor, widthTests, tableTests};
 use crate::kinds::Interval;
 use crate::powers::power;
 
@@ -162,4 +162,11 @@ pub fn widths(k: u32, m: u32) -> Outcome
     ensures { λ r. ⌜ backOf r ≡ refusal (widthTests k m) ⌝ }
 {
     input_width(k).then(output_width(m))
+}
+
+// 1, 2 and 3, with which every call that takes a whole table begins.
+pub fn whole_table(k: u32, m: u32, lent: usize) -> Outcome
+    ensures { λ r. ⌜ backOf r ≡ refusal (tableTests k m lent) ⌝ }
+{
+    widths(k, m).then(few_cells(lent, k))
 }

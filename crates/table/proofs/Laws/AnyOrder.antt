@@ -9,20 +9,20 @@ use borrow.Author.Tests.{le-ltb, le-leb, lt-leb, ltb-false}
 use lib.ListN.{length, getD}
 use lib.Pow.{pow-pos}
 use lib.Seq.{ext-getD}
-use Rattle.units.specs.Refusals.{Back, bankHeight, bankNumber, widthTests}
+use Rattle.units.specs.Refusals.{Back, bankHeight, bankNumber, widthTests, tableTests}
 use Rattle.units.proofs.Laws.Order.{by-order}
 use Rattle.units.proofs.Laws.Powers.{power-splits}
 use Rattle.units.proofs.Laws.Tests.{Passed, done-by, refused-after}
 use Rattle.entry.specs.Rule.{ruleField}
 use Rattle.table.specs.Banks.{bankSize, bankStart}
-use Rattle.table.specs.Build.{filled, buildTests, built, bankTests, bankBuilt, banksBuilt}
+use Rattle.table.specs.Build.{filled, built, bankTests, bankBuilt, banksBuilt}
 use Rattle.table.proofs.Laws.Banks.{bank-within}
 use Rattle.table.proofs.Laws.Rows.{length-filled, filled-in, filled-before, filled-after}
 use Rattle.table.proofs.Laws.Built.{built-field, built-keeps, length-built}
 
 module _ (k m h : ℕ) (low : h ≤ k) where
   Good : List ℕ → Type 0
-  Good cells = Passed (buildTests k m (length cells))
+  Good cells = Passed (tableTests k m (length cells))
 
   -- a bank is built, or its number is none and nothing is written
   either : (P : List ℕ → Type 0) (b : ℕ) (cells : List ℕ) → Good cells
@@ -52,7 +52,7 @@ module _ (k m h : ℕ) (low : h ≤ k) where
 
   good-again : (b : ℕ) (cells : List ℕ) → Good cells → Good (bankBuilt k m h b cells)
   unfolding Good
-  good-again b cells done = subst (λ (n : ℕ). Passed (buildTests k m n)) (sym (same-length b cells done)) done
+  good-again b cells done = subst (λ (n : ℕ). Passed (tableTests k m n)) (sym (same-length b cells done)) done
 
   -- a cell past the table keeps its value, and one that holds its field keeps it
   keeps : (i b : ℕ) (cells : List ℕ) → Good cells → 2 ^ k ≤ i → getD (bankBuilt k m h b cells) i 0 ≡ getD cells i 0
@@ -108,7 +108,7 @@ module _ (k m h : ℕ) (low : h ≤ k) where
       some-writes i b bs (bankBuilt k m h c cells) mem (good-again c cells done) number from to
 
   -- Document 01: "All banks of one h, built in any order, give the whole table", repeats and numbers of no bank among them
-  pub banks-in-any-order : (bs cells : List ℕ) → ((b : ℕ) → b < 2 ^ h → List·Memᴰ b bs) → Passed (buildTests k m (length cells))
+  pub banks-in-any-order : (bs cells : List ℕ) → ((b : ℕ) → b < 2 ^ h → List·Memᴰ b bs) → Passed (tableTests k m (length cells))
       → banksBuilt k m h bs cells ≡ built k m cells
   unfolding Good
   banks-in-any-order bs cells every done =

@@ -5,25 +5,25 @@ use mathlib.Core.Path.{_≡_, sym, ap, _∙_}
 use native.Mathlib.Omega.{arith}
 use borrow.Author.Tests.{ltb-false}
 use lib.ListN.{length, getD}
-use Rattle.units.specs.Refusals.{Back}
+use Rattle.units.specs.Refusals.{Back, tableTests}
 use Rattle.units.proofs.Laws.Tests.{Passed, done-by}
 use Rattle.entry.specs.Errors.{unit, iOf, jOf, worst}
 use Rattle.entry.specs.Least.{leastWorst}
 use Rattle.entry.specs.Rule.{ruleValue, ruleField}
 use Rattle.entry.proofs.Laws.Table.{rule-in-range, rule-value-reaches-least}
-use Rattle.table.specs.Build.{filled, buildTests, built}
+use Rattle.table.specs.Build.{filled, built}
 use Rattle.table.proofs.Laws.Rows.{length-filled, filled-in, filled-after}
 
 -- the rule's field stands for the rule's value
 pub rule-field-is : (k m : ℕ) {n : ℕ} → n < 2 ^ k → jOf m (ruleField k m n) ≡ ruleValue k m n
 rule-field-is k m h = omega (arith, rule-in-range k m h .0)
 
-module _ (k m : ℕ) (cells : List ℕ) (done : Passed (buildTests k m (length cells))) where
+module _ (k m : ℕ) (cells : List ℕ) (done : Passed (tableTests k m (length cells))) where
   enough : 2 ^ k ≤ length cells
   enough = ltb-false (length cells) (2 ^ k) (done .1 .1 .0)
 
   built-is : built k m cells ≡ filled k m 0 (2 ^ k) cells
-  built-is = sym (done-by (λ (_ : Back). cells) (filled k m 0 (2 ^ k) cells) (buildTests k m (length cells)) done)
+  built-is = sym (done-by (λ (_ : Back). cells) (filled k m 0 (2 ^ k) cells) (tableTests k m (length cells)) done)
 
   -- Demand 2: "is the entry that document 01 names where two are equally good"
   pub built-field : {n : ℕ} → n < 2 ^ k → getD (built k m cells) n 0 ≡ ruleField k m n

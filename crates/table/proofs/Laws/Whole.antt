@@ -6,11 +6,11 @@ use native.Mathlib.Nat.{sub-zero}
 use native.Mathlib.Omega.{arith}
 use borrow.Author.Tests.{le-ltb}
 use lib.ListN.{length}
-use Rattle.units.specs.Refusals.{Back, answer}
+use Rattle.units.specs.Refusals.{Back, answer, tableTests}
 use Rattle.table.specs.Banks.{bankSize, bankStart}
-use Rattle.table.specs.Build.{filled, buildTests, built, bankTests, bankBuilt}
+use Rattle.table.specs.Build.{filled, built, bankTests, bankBuilt}
 
-pub whole-tests : {A : Type 0} (refuse : Back → A) (done : A) (k m lent : ℕ) → answer refuse done (bankTests k m 0 0 lent) ≡ answer refuse done (buildTests k m lent)
+pub whole-tests : {A : Type 0} (refuse : Back → A) (done : A) (k m lent : ℕ) → answer refuse done (bankTests k m 0 0 lent) ≡ answer refuse done (tableTests k m lent)
 unfolding answer
 whole-tests refuse done k m lent = simp (le-ltb k 0 (omega arith))
 
