@@ -100,7 +100,7 @@ pub passed : (ts : List Test) → Numbered ts → back 0 0 ≡ refusal ts → Pa
 passed ts p e = all-passed ts p (sym (ap (λ (b : Back). b .number) e))
 
 -- a number that is not outside
-or-false : (a b : Bool) → (a || b) ≡ false → (a ≡ false) × (b ≡ false)
+pub or-false : (a b : Bool) → (a || b) ≡ false → (a ≡ false) × (b ≡ false)
 or-false true b e = absurd (false≢true (sym e))
 or-false false b e = (refl, e)
 

@@ -1,0 +1,295 @@
+// Runs the surveys, the tally and the check. The file `stdout` is not this program's output: its first
+// lines are transcribed from the source's Tables 6 and 7 (row k = 13, g = 0 of Table 7 is a misprint;
+// the worst is at n = 45), and the others are worked out from document 01's definitions.
+ghost use Prim.Native.Nat.{_<_, _≤_};
+ghost use mathlib.Core.Path.{_≡_};
+ghost use lib.ListN.{length};
+use libc::STDOUT_FILENO;
+use survey::Finding;
+use survey::SurveyAnswer;
+use survey::Tally;
+use survey::TallyAnswer;
+use table::build;
+use units::Interval;
+use units::Outcome;
+use units::Side;
+use units::Worst;
+use verdict::CheckAnswer;
+
+// The rows of Table 6 with m up to 15: k, and m = k + g.
+const TABLE_6: [u32; 14] = [5, 5, 5, 6, 5, 7, 10, 10, 10, 11, 10, 12, 15, 15];
+
+fn text(s: &[u8]) {
+    io::write_all(STDOUT_FILENO, s);
+}
+
+fn long(n: u64) {
+    io::print_decimal(STDOUT_FILENO, n);
+}
+
+fn number(n: u32) {
+    text(b" ");
+    long(n as u64);
+}
+
+fn wide(n: u64) {
+    text(b" ");
+    long(n);
+}
+
+fn zeroed() -> [u16; 32768]
+    ensures { λ r. ⌜ 32768 ≡ length r ⌝ }
+{
+    [0; 32768]
+}
+
+fn finding(f: Finding) {
+    number(f.n.0);
+    wide(f.worst.0);
+    let s = f.side;
+    number(s.number());
+}
+
+// The number, n, worst and side of a survey, unused ones zero.
+fn surveyed(a: SurveyAnswer) {
+    match a {
+        SurveyAnswer::Surveyed(f) => {
+            number(0);
+            finding(f);
+        }
+        SurveyAnswer::TooWide(n) => {
+            number(5);
+            number(n.0);
+            text(b" 0 0");
+        }
+        SurveyAnswer::Refused(r) => {
+            number(r.number());
+            text(b" 0 0 0");
+        }
+    }
+}
+
+// The number, yes or no, n, worst and least of a check, unused ones zero.
+fn checked(a: CheckAnswer) {
+    match a {
+        CheckAnswer::Yes => text(b" 0 yes 0 0 0"),
+        CheckAnswer::NotBest { n, worst, least } => {
+            text(b" 0 no");
+            number(n.0);
+            wide(worst.0);
+            wide(least.0);
+        }
+        CheckAnswer::TooWide(n) => {
+            text(b" 5 no");
+            number(n.0);
+            text(b" 0 0");
+        }
+        CheckAnswer::Refused(r) => {
+            number(r.number());
+            text(b" no 0 0 0");
+        }
+    }
+}
+
+// The worst finding of the best table of k and m; a fresh one where the survey is refused.
+fn worst_of(k: u32, m: u32) -> Finding {
+    let mut cells = zeroed();
+    let built: Outcome = build(k, m, &mut cells);
+    match survey::whole(k, m, &cells) {
+        SurveyAnswer::Surveyed(f) => f,
+        _ => Finding {
+            worst: Worst(0),
+            n: Interval(0),
+            side: Side::Left,
+        },
+    }
+}
+
+// "k=5 g=0 43/2^11"
+fn table_6(row: usize)
+    requires { ⌜ row < 7 ⌝ }
+{
+    let k = TABLE_6[2 * row];
+    let m = TABLE_6[2 * row + 1];
+    line_of_table_6(k, m);
+}
+
+fn line_of_table_6(k: u32, m: u32) {
+    if m < k {
+        return;
+    }
+    if 15 < m {
+        return;
+    }
+    text(b"k=");
+    long(k as u64);
+    text(b" g=");
+    long((m - k) as u64);
+    text(b" ");
+    long(worst_of(k, m).worst.0);
+    text(b"/2^");
+    long((k + m + 1) as u64);
+    text(b"\n");
+}
+
+// The digit of n at place at.
+fn digit(n: u32, at: u32) {
+    if 31 < at {
+        return;
+    }
+    if (n >> at) % 2 == 0 {
+        text(b"0");
+    } else {
+        text(b"1");
+    }
+}
+
+// " 1.01000": the k binary digits of n after the point.
+fn chopped(k: u32, n: u32) {
+    text(b" 1.");
+    let mut left = k;
+    while 0 < left {
+        left -= 1;
+        digit(n, left);
+    }
+}
+
+// "k=5 1.01000 1.00011": the worst inputs of (k, k) and, where 15 bits allow it, of (k, k + 1).
+fn table_7(k: u32)
+    requires { ⌜ k ≤ 15 ⌝ }
+{
+    text(b"k=");
+    long(k as u64);
+    chopped(k, worst_of(k, k).n.0);
+    if k < 15 {
+        chopped(k, worst_of(k, k + 1).n.0);
+    }
+    text(b"\n");
+}
+
+// The answers of all surveys and of the check on the same cells.
+fn all_on(k: u32, m: u32, h: u32, b: u32, cells: &[u16]) {
+    text(b"on");
+    number(k);
+    number(m);
+    number(h);
+    number(b);
+    wide(cells.len() as u64);
+    text(b":");
+    surveyed(survey::whole(k, m, cells));
+    text(b",");
+    surveyed(survey::bank(k, m, h, b, cells));
+    text(b",");
+    surveyed(survey::bank_of(k, m, h, b, cells));
+    text(b",");
+    checked(verdict::check(k, m, cells));
+    text(b"\n");
+}
+
+// A built table of (5,5) with a bad entry, and just after it (or at 0, after the last) an over-wide
+// field.
+fn damaged(at: usize)
+    requires { ⌜ at < 32 ⌝ }
+{
+    let mut cells = [0u16; 32];
+    let built: Outcome = build(5, 5, &mut cells);
+    cells[at] = 32;
+    cells[(at + 31) % 32] = 0;
+    all_on(5, 5, 1, 0, &cells);
+    all_on(5, 5, 1, 1, &cells);
+    cells[at] = 31;
+    all_on(5, 5, 1, 0, &cells);
+    all_on(5, 5, 1, 1, &cells);
+}
+
+// Widths, banks and cells that are refused, and their neighbours that are not.
+fn refused() {
+    let mut cells = [43981u16; 33];
+    all_on(0, 5, 0, 0, &cells);
+    all_on(5, 0, 0, 0, &cells);
+    all_on(16, 16, 0, 0, &cells);
+    all_on(6, 5, 3, 7, &cells);
+    let built: Outcome = build(5, 15, &mut cells);
+    all_on(5, 15, 0, 0, &cells);
+    all_on(5, 15, 2, 3, &cells);
+    all_on(5, 15, 2, 4, &cells);
+    all_on(5, 15, 6, 0, &cells);
+    all_on(5, 15, 5, 31, &cells);
+    all_on(5, 15, 5, 31, &cells[0..31]);
+    all_on(5, 15, 5, 30, &cells[0..31]);
+    all_on(5, 15, 5, 31, &cells[0..0]);
+}
+
+fn state(t: Tally) {
+    number(t.k);
+    number(t.m);
+    number(t.next.0);
+    let f = t.finding;
+    finding(f);
+}
+
+// The number and n of a tally's answer, and the tally that came back.
+fn taken(a: TallyAnswer) {
+    match a {
+        TallyAnswer::Taken(t) => {
+            text(b" 0 0");
+            state(t);
+        }
+        TallyAnswer::TooWide(n, t) => {
+            number(5);
+            number(n.0);
+            state(t);
+        }
+        TallyAnswer::Refused(r, t) => {
+            number(r.number());
+            text(b" 0");
+            state(t);
+        }
+    }
+    text(b"\n");
+}
+
+// Tallies with a finding that no survey has, and any widths and next n.
+fn forged(k: u32, m: u32, next: u32, worst: u64, f: u16) {
+    let tally = Tally {
+        k: k,
+        m: m,
+        next: Interval(next),
+        finding: Finding {
+            worst: Worst(worst),
+            n: Interval(4294967295),
+            side: Side::Both,
+        },
+    };
+    text(b"tally");
+    taken(tally.take(f));
+}
+
+fn tallies() {
+    text(b"tally");
+    taken(Tally::start(5, 5, Interval(8)).take(19));
+    text(b"tally");
+    taken(Tally::start(4294967295, 4294967295, Interval(4294967295)).take(65535));
+    forged(15, 15, 32767, 0, 32767);
+    forged(15, 15, 32767, 18446744073709551615, 32767);
+    forged(15, 15, 32767, 0, 32768);
+    forged(15, 15, 32768, 0, 65535);
+    forged(15, 16, 4294967295, 0, 65535);
+    forged(0, 16, 4294967295, 0, 65535);
+    forged(5, 5, 8, 42, 19);
+    forged(5, 5, 8, 43, 19);
+}
+
+fn main() {
+    for row in 0..7 {
+        table_6(row);
+    }
+    for k in 5..16 {
+        table_7(k);
+    }
+    damaged(0);
+    damaged(15);
+    damaged(31);
+    refused();
+    tallies();
+}

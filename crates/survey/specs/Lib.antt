@@ -1,0 +1,3 @@
+pub mod Finding
+pub mod Tally
+pub mod Survey

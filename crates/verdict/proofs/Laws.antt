@@ -1,0 +1,6 @@
+pub mod Wide
+pub mod Scan
+pub mod Verdict
+pub mod Finding
+pub mod Report
+pub mod Built
