@@ -1,0 +1,2 @@
+-- What the library promises: one theorem for each sentence, where another repository can cite it.
+pub mod Promises

@@ -1,0 +1,98 @@
+-- "That any two answers allowed by a statement are equal is itself proved": for each call, two answers that its contract allows are one.
+-- The cells that a call leaves, and the stretch that Show a bank hands out, are stated as lists, so for them there is nothing to show.
+-- Assumes nothing.
+use Prim.Native.Nat.{ℕ}
+use mathlib.Core.List.{List}
+use mathlib.Core.Path.{_≡_, sym, _∙_}
+use lib.ListN.{length}
+use Rattle.units.specs.Refusals.{Back, backOf, refusal, tableTests}
+use Rattle.units.specs.declared.refusals.Outcome.{Outcome}
+use Rattle.units.proofs.Laws.OneToOne.{outcome-one-to-one}
+use Rattle.entry.specs.Report as error-specs
+use Rattle.entry.specs.declared.call.ErrorAnswer.{ErrorAnswer}
+use Rattle.entry.proofs.Laws.Report as error-laws
+use Rattle.table.specs.Banks.{viewTests}
+use Rattle.table.specs.Build.{bankTests}
+use Rattle.table.specs.Lookup as lookup-specs
+use Rattle.table.specs.declared.lookups.LookupAnswer.{LookupAnswer}
+use Rattle.table.proofs.Laws.Report as lookup-laws
+use Rattle.survey.specs.Survey as survey-specs
+use Rattle.survey.specs.Tally as tally-specs
+use Rattle.survey.specs.declared.surveys.SurveyAnswer.{SurveyAnswer}
+use Rattle.survey.specs.declared.tallies.Tally.{Tally}
+use Rattle.survey.specs.declared.tallies.TallyAnswer.{TallyAnswer}
+use Rattle.survey.proofs.Laws.Report as survey-laws
+use Rattle.survey.proofs.Laws.TallyReport as tally-laws
+use Rattle.verdict.specs.Check as check-specs
+use Rattle.verdict.specs.declared.CheckAnswer.{CheckAnswer}
+use Rattle.verdict.proofs.Laws.Report as check-laws
+
+-- two answers with the same report, where the report is one to one
+unique : {A B : Type 0} (f : A → B) → ((a b : A) → f a ≡ f b → a ≡ b) → (stated : B) (a b : A) → f a ≡ stated → f b ≡ stated → a ≡ b
+unique f one stated a b p q = one a b (p ∙ sym q)
+
+pub build-unique : (k m : ℕ) (cells : List ℕ) (a b : Outcome)
+    → backOf a ≡ refusal (tableTests k m (length cells))
+    → backOf b ≡ refusal (tableTests k m (length cells))
+    → a ≡ b
+build-unique k m cells = unique backOf outcome-one-to-one _
+
+pub build-bank-unique : (k m h n : ℕ) (cells : List ℕ) (a b : Outcome)
+    → backOf a ≡ refusal (bankTests k m h n (length cells))
+    → backOf b ≡ refusal (bankTests k m h n (length cells))
+    → a ≡ b
+build-bank-unique k m h n cells = unique backOf outcome-one-to-one _
+
+pub show-bank-number-unique : (k h n : ℕ) (cells : List ℕ) (a b : Outcome)
+    → backOf a ≡ refusal (viewTests k h n (length cells))
+    → backOf b ≡ refusal (viewTests k h n (length cells))
+    → a ≡ b
+show-bank-number-unique k h n cells = unique backOf outcome-one-to-one _
+
+pub entry-error-unique : (k m n f : ℕ) (a b : ErrorAnswer)
+    → error-specs.reported a ≡ error-specs.entryReport k m n f
+    → error-specs.reported b ≡ error-specs.entryReport k m n f
+    → a ≡ b
+entry-error-unique k m n f = unique error-specs.reported error-laws.reported-one-to-one _
+
+pub start-unique : (k m first : ℕ) (a b : Tally)
+    → tally-specs.stateOf a ≡ tally-specs.started k m first
+    → tally-specs.stateOf b ≡ tally-specs.started k m first
+    → a ≡ b
+start-unique k m first = unique tally-specs.stateOf tally-laws.state-one-to-one _
+
+pub take-unique : (t : Tally) (f : ℕ) (a b : TallyAnswer)
+    → tally-specs.reported a ≡ tally-specs.tallyReport (tally-specs.stateOf t) f
+    → tally-specs.reported b ≡ tally-specs.tallyReport (tally-specs.stateOf t) f
+    → a ≡ b
+take-unique t f = unique tally-specs.reported tally-laws.reported-one-to-one _
+
+pub survey-unique : (k m : ℕ) (cells : List ℕ) (a b : SurveyAnswer)
+    → survey-specs.reported a ≡ survey-specs.surveyReport k m cells
+    → survey-specs.reported b ≡ survey-specs.surveyReport k m cells
+    → a ≡ b
+survey-unique k m cells = unique survey-specs.reported survey-laws.reported-one-to-one _
+
+pub survey-bank-unique : (k m h n : ℕ) (cells : List ℕ) (a b : SurveyAnswer)
+    → survey-specs.reported a ≡ survey-specs.bankReport k m h n cells
+    → survey-specs.reported b ≡ survey-specs.bankReport k m h n cells
+    → a ≡ b
+survey-bank-unique k m h n cells = unique survey-specs.reported survey-laws.reported-one-to-one _
+
+pub survey-bank-of-unique : (k m h n : ℕ) (table : List ℕ) (a b : SurveyAnswer)
+    → survey-specs.reported a ≡ survey-specs.bankOfReport k m h n table
+    → survey-specs.reported b ≡ survey-specs.bankOfReport k m h n table
+    → a ≡ b
+survey-bank-of-unique k m h n table = unique survey-specs.reported survey-laws.reported-one-to-one _
+
+pub check-unique : (k m : ℕ) (cells : List ℕ) (a b : CheckAnswer)
+    → check-specs.reported a ≡ check-specs.checkReport k m cells
+    → check-specs.reported b ≡ check-specs.checkReport k m cells
+    → a ≡ b
+check-unique k m cells = unique check-specs.reported check-laws.reported-one-to-one _
+
+pub look-up-unique : (k m x : ℕ) (cells : List ℕ) (a b : LookupAnswer)
+    → lookup-specs.reported a ≡ lookup-specs.lookupReport k m x cells
+    → lookup-specs.reported b ≡ lookup-specs.lookupReport k m x cells
+    → a ≡ b
+look-up-unique k m x cells = unique lookup-specs.reported lookup-laws.reported-one-to-one _

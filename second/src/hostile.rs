@@ -1,0 +1,128 @@
+//! Mode 2: a pseudo-random drive of every call, good inputs and bad ones mixed,
+//! over one buffer that is never cleaned, so that damaged tables arise.
+//! The order of the draws is part of the format; README.md writes it out.
+
+use crate::calls::{self, Tally};
+use crate::rules;
+
+pub const CALLS: u64 = 40000;
+
+pub struct Drive {
+    state: u64,
+    cells: [u16; 64],
+    pub digest: u64,
+}
+
+impl Drive {
+    pub fn new() -> Drive {
+        Drive { state: 1, cells: [0; 64], digest: 0 }
+    }
+
+    /// The generator of Park and Miller (MINSTD, multiplier 48271).
+    fn pick(&mut self, n: u64) -> u64 {
+        self.state = self.state * 48271 % 2147483647;
+        self.state % n
+    }
+
+    fn width(&mut self) -> u64 {
+        match self.pick(20) {
+            0 => 0,
+            1 => 16,
+            2 => 4294967295,
+            _ => 1 + self.pick(6),
+        }
+    }
+
+    fn divisor(&mut self) -> u64 {
+        match self.pick(8) {
+            0 => 0,
+            1 => 32767,
+            2 => 65536,
+            3 => 4294967295,
+            _ => 32768 + self.pick(32768),
+        }
+    }
+
+    /// Draws one call's inputs, makes the call and folds its answer in.
+    /// Gives op and the values folded after it; the first one is the number.
+    pub fn next_call(&mut self) -> (u64, Vec<u64>) {
+        let op = self.pick(10);
+        let k = self.width();
+        let m = self.width();
+        let h = self.pick(8);
+        let b = self.pick(70);
+        let n = self.pick(70);
+        let f = self.pick(200) as u16;
+        let x = self.divisor();
+        let lent = self.pick(65) as usize;
+
+        let values = match op {
+            0 => {
+                let number = calls::build(k, m, &mut self.cells[..lent]);
+                self.with_all_cells(number)
+            }
+            1 => {
+                let number = calls::build_bank(k, m, h, b, &mut self.cells[..lent]);
+                self.with_all_cells(number)
+            }
+            2 => {
+                let (number, stretch) = calls::show_bank(k, h, b, &self.cells[..lent]);
+                vec![number, stretch.len() as u64, rules::digest(stretch)]
+            }
+            3 => {
+                let e = calls::entry_error(k, m, n, f);
+                let (low_sign, low_size) = sign_and_size(e.low);
+                let (high_sign, high_size) = sign_and_size(e.high);
+                vec![e.number, e.n, low_sign, low_size, high_sign, high_size, e.worst, e.side]
+            }
+            4 => survey_values(calls::survey(k, m, &self.cells[..lent])),
+            5 => survey_values(calls::survey_bank_alone(k, m, h, b, &self.cells[..lent])),
+            6 => survey_values(calls::survey_bank_in_table(k, m, h, b, &self.cells[..lent])),
+            7 => {
+                let c = calls::check(k, m, &self.cells[..lent]);
+                vec![c.number, c.yes, c.n, c.worst, c.least]
+            }
+            8 => {
+                let l = calls::look_up(k, m, x, &self.cells[..lent]);
+                vec![l.number, l.n, l.j]
+            }
+            _ => {
+                self.cells[n as usize % 64] = f;
+                let (number1, n1, tally) = Tally::start(k, m, n).take(f);
+                let (number2, n2, t) = tally.take(f % 4);
+                vec![number1, n1, number2, n2, t.k, t.m, t.next_n, t.worst, t.n, t.side]
+            }
+        };
+
+        self.digest = rules::fold(self.digest, op);
+        for &value in &values {
+            self.digest = rules::fold(self.digest, value);
+        }
+        (op, values)
+    }
+
+    fn with_all_cells(&self, number: u64) -> Vec<u64> {
+        let mut values = vec![number];
+        values.extend(self.cells.iter().map(|&cell| cell as u64));
+        values
+    }
+}
+
+/// A signed value as two: 1 if it is negative, else 0; then its size.
+fn sign_and_size(v: i64) -> (u64, u64) {
+    ((v < 0) as u64, v.unsigned_abs())
+}
+
+fn survey_values(s: calls::Survey) -> Vec<u64> {
+    vec![s.number, s.n, s.worst, s.side]
+}
+
+pub fn run() {
+    let mut drive = Drive::new();
+    for c in 0..CALLS {
+        drive.next_call();
+        if (c + 1) % 1000 == 0 {
+            println!("{} {}", c + 1, drive.digest);
+        }
+    }
+}

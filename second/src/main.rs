@@ -1,0 +1,21 @@
+//! An independent second program for document 01 (01-scope.md).
+//! It shares no code with the library it is compared with. See README.md.
+
+mod calls;
+#[cfg(test)]
+mod examples;
+mod hostile;
+mod rules;
+mod widths;
+
+fn main() {
+    let arguments: Vec<String> = std::env::args().skip(1).collect();
+    match arguments.iter().map(String::as_str).collect::<Vec<_>>()[..] {
+        ["widths"] => widths::run(),
+        ["hostile"] => hostile::run(),
+        _ => {
+            eprintln!("usage: second widths | second hostile");
+            std::process::exit(2);
+        }
+    }
+}

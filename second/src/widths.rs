@@ -1,0 +1,59 @@
+//! Mode 1: every table for k and m from 1 to 15, by exhaustive search.
+
+use crate::{calls, rules};
+
+/// What was found for one interval: the field of the builder's value, and how
+/// many values reach the least worst error.
+#[derive(Clone, Copy, Default)]
+struct Found {
+    field: u16,
+    equally_good: usize,
+}
+
+fn find(k: i64, m: i64, n: i64) -> Found {
+    let (_least, values) = rules::best(k, m, n);
+    let j = rules::builders_choice(k, m, n, &values);
+    // "an entry is stored as a field f of m bits [...] j = 2^m + f"
+    Found { field: (j - rules::power(m)) as u16, equally_good: values.len() }
+}
+
+/// The whole table, one half of the intervals on each of two threads.
+fn table(k: i64, m: i64) -> Vec<Found> {
+    let mut found = vec![Found::default(); 1 << k];
+    let half = found.len() / 2;
+    std::thread::scope(|threads| {
+        for (part, places) in found.chunks_mut(half).enumerate() {
+            threads.spawn(move || {
+                for (place, slot) in places.iter_mut().enumerate() {
+                    *slot = find(k, m, (part * half + place) as i64);
+                }
+            });
+        }
+    });
+    found
+}
+
+/// `K M DIGEST WORST N SIDE TIES`
+pub fn line(k: i64, m: i64) -> String {
+    let found = table(k, m);
+    assert!(found.iter().all(|f| f.equally_good == 1 || f.equally_good == 2));
+    let ties = found.iter().filter(|f| f.equally_good == 2).count();
+    let fields: Vec<u16> = found.iter().map(|f| f.field).collect();
+    let survey = calls::survey(k as u64, m as u64, &fields);
+    assert_eq!(survey.number, 0);
+    format!(
+        "{k} {m} {} {} {} {} {ties}",
+        rules::digest(&fields),
+        survey.worst,
+        survey.n,
+        survey.side
+    )
+}
+
+pub fn run() {
+    for k in 1..=15 {
+        for m in 1..=15 {
+            println!("{}", line(k, m));
+        }
+    }
+}
