@@ -1,0 +1,18 @@
+-- `cases_hostile::pick` gives a number below n. Assumes nothing.
+use native.Mathlib.Nat.{mod-lt}
+use native.Mathlib.Omega.{arith}
+use borrow.Author.Needs.{needs}
+use Rattle.cases_hostile.proofs.pick.Statement.{statement}
+use Rattle.cases_hostile.proofs.pick.Tie as tie
+
+mul-state : tie.Need-mul-state
+mul-state c = search needs
+
+rem-result : tie.Need-rem-result
+rem-result c = search needs
+
+returns : tie.Need-returns
+returns c = mod-lt _ (omega arith)
+
+pub pick-spec : {M : Type 1} → statement M
+pick-spec = tie.close (tie.spec mul-state rem-result returns)
