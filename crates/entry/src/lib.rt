@@ -17,3 +17,5 @@ pub use measure::Sizes;
 pub use measure::errors_of;
 pub use measure::sizes_of;
 pub use numbers::entry_of;
+pub use numbers::left_end;
+pub use numbers::unit_of;

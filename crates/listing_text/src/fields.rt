@@ -1,0 +1,44 @@
+// Text put into a page, piece after piece.
+ghost use mathlib.Core.Path.{_≡_};
+ghost use Prim.Native.Nat.{_+_, _≤_};
+ghost use lib.ListN.{length};
+ghost use Rattle.listing_text.specs.Text.{field, signed, Put};
+use units::Error;
+
+// Puts a text at a place of the page, and answers the place after it.
+pub fn put(page: &mut [u8], at: usize, text: &[u8]) -> usize
+    requires { ⌜ at + length (now text) ≤ length (now page) ⌝ }
+    ensures { λ r. ⌜ Put (now (text .entry)) (now (page .entry)) at (now (page .exit)) r ⌝ }
+{
+    let mut i: usize = 0;
+    while i < text.len() {
+        page[at + i] = text[i];
+        i += 1;
+    }
+    at + i
+}
+
+// A number of at most 20 digits, after its label.
+pub fn put_field(page: &mut [u8], at: usize, label: &[u8], n: u64) -> usize
+    requires { ⌜ at + (length (now label) + 20) ≤ length (now page) ⌝ }
+    ensures { λ r. ⌜ Put (field (now (label .entry)) n) (now (page .entry)) at (now (page .exit)) r ⌝ }
+    ensures room { λ r. ⌜ r ≤ at + (length (now (label .entry)) + 20) ⌝ }
+{
+    let next = put(page, at, label);
+    let mut text = [0u8; 20];
+    let count = io::decimal(n, &mut text);
+    put(page, next, &text[..count])
+}
+
+// An error, after a space.
+pub fn put_error(page: &mut [u8], at: usize, e: Error) -> usize
+    requires { ⌜ at + 22 ≤ length (now page) ⌝ }
+    ensures { λ r. ⌜ Put (signed (e .0)) (now (page .entry)) at (now (page .exit)) r ⌝ }
+    ensures room { λ r. ⌜ r ≤ at + 22 ⌝ }
+{
+    let size = e.size().0;
+    if e.is_negative() {
+        return put_field(page, at, b" -", size);
+    }
+    put_field(page, at, b" ", size)
+}

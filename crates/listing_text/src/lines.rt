@@ -1,0 +1,105 @@
+// The lines of the listing.
+ghost use mathlib.Core.Path.{_≡_};
+ghost use Prim.Native.Nat.{_+_, _≤_};
+ghost use lib.ListN.{length};
+ghost use Rattle.units.specs.Sides.{sideNumber};
+ghost use Rattle.units.specs.Refusals.{refusalNumber};
+ghost use Rattle.entry.specs.Bounds.{With};
+ghost use Rattle.entry.specs.Errors.{iOf, jOf};
+ghost use Rattle.survey.specs.Tally.{findingOf};
+ghost use Rattle.listing_text.specs.Text.{Put, sideEnd, entryNumbers, entryErrors, firstLine, entryLine, lastLine, refusedLine};
+use crate::fields::put;
+use crate::fields::put_error;
+use crate::fields::put_field;
+use entry::Errors;
+use entry::entry_of;
+use entry::errors_of;
+use entry::left_end;
+use entry::unit_of;
+use survey::Finding;
+use units::Entry;
+use units::Interval;
+use units::Refusal;
+use units::Side;
+
+// " left", " right" or " both", and the end of the line.
+fn put_side(page: &mut [u8], at: usize, s: Side) -> usize
+    requires { ⌜ at + 7 ≤ length (now page) ⌝ }
+    ensures { λ r. ⌜ Put (sideEnd (sideNumber s)) (now (page .entry)) at (now (page .exit)) r ⌝ }
+    ensures room { λ r. ⌜ r ≤ at + 7 ⌝ }
+{
+    match s {
+        Side::Left => put(page, at, b" left\n"),
+        Side::Right => put(page, at, b" right\n"),
+        Side::Both => put(page, at, b" both\n"),
+    }
+}
+
+// "n, i, j".
+fn put_numbers(page: &mut [u8], at: usize, n: Interval, i: u64, j: Entry) -> usize
+    requires { ⌜ at + 62 ≤ length (now page) ⌝ }
+    ensures { λ r. ⌜ Put (entryNumbers (n .0) i (j .0)) (now (page .entry)) at (now (page .exit)) r ⌝ }
+    ensures room { λ r. ⌜ r ≤ at + 62 ⌝ }
+{
+    let n_end = put_field(page, at, b"", n.0 as u64);
+    let i_end = put_field(page, n_end, b" ", i);
+    put_field(page, i_end, b" ", j.0 as u64)
+}
+
+// "low, high, worst, side", and the end of the line.
+fn put_errors(page: &mut [u8], at: usize, e: Errors) -> usize
+    requires { ⌜ at + 72 ≤ length (now page) ⌝ }
+    ensures { λ r. ⌜ Put (entryErrors (e .low .0) (e .high .0) (e .worst .0) (sideNumber (e .side))) (now (page .entry)) at (now (page .exit)) r ⌝ }
+    ensures room { λ r. ⌜ r ≤ at + 72 ⌝ }
+{
+    let low_end = put_error(page, at, e.low);
+    let high_end = put_error(page, low_end, e.high);
+    let worst_end = put_field(page, high_end, b" ", e.worst.0);
+    let side = e.side;
+    put_side(page, worst_end, side)
+}
+
+// "First line: widths and 2^P."
+pub fn put_first(page: &mut [u8], at: usize, k: u32, m: u32) -> usize
+    requires { ⌜ (k ≤ 15) × ((m ≤ 15) × (at + 134 ≤ length (now page))) ⌝ }
+    ensures { λ r. ⌜ Put (firstLine k m) (now (page .entry)) at (now (page .exit)) r ⌝ }
+    ensures room { λ r. ⌜ r ≤ at + 134 ⌝ }
+{
+    let k_end = put_field(page, at, b"k=", k as u64);
+    let m_end = put_field(page, k_end, b" m=", m as u64);
+    let unit_end = put_field(page, m_end, b" unit=", unit_of(k, m));
+    put(page, unit_end, b"\n")
+}
+
+// "Then per entry: n, i, j, low, high, worst, side."
+pub fn put_entry(page: &mut [u8], at: usize, k: u32, m: u32, n: Interval, f: u16) -> usize
+    requires { ⌜ (With k m (n .0) (jOf m f)) × (at + 134 ≤ length (now page)) ⌝ }
+    ensures { λ r. ⌜ Put (entryLine k m (n .0) f) (now (page .entry)) at (now (page .exit)) r ⌝ }
+    ensures room { λ r. ⌜ r ≤ at + 134 ⌝ }
+{
+    let j = entry_of(m, f);
+    let numbers_end = put_numbers(page, at, n, left_end(k, n), j);
+    put_errors(page, numbers_end, errors_of(k, m, n, j))
+}
+
+// "Last: survey's worst, its n, its side."
+pub fn put_last(page: &mut [u8], at: usize, f: Finding) -> usize
+    requires { ⌜ at + 134 ≤ length (now page) ⌝ }
+    ensures { λ r. ⌜ Put (lastLine (findingOf f)) (now (page .entry)) at (now (page .exit)) r ⌝ }
+    ensures room { λ r. ⌜ r ≤ at + 134 ⌝ }
+{
+    let worst_end = put_field(page, at, b"worst ", f.worst.0);
+    let n_end = put_field(page, worst_end, b" ", f.n.0 as u64);
+    let side = f.side;
+    put_side(page, n_end, side)
+}
+
+// "A refusal is the single line "refused" with its number."
+pub fn put_refused(page: &mut [u8], at: usize, r: Refusal) -> usize
+    requires { ⌜ at + 134 ≤ length (now page) ⌝ }
+    ensures { λ e. ⌜ Put (refusedLine (refusalNumber r)) (now (page .entry)) at (now (page .exit)) e ⌝ }
+    ensures room { λ e. ⌜ e ≤ at + 134 ⌝ }
+{
+    let number_end = put_field(page, at, b"refused ", r.number() as u64);
+    put(page, number_end, b"\n")
+}
