@@ -1,9 +1,9 @@
 -- A narrower interval and a finer entry lose nothing. MATH.md, 6. Assumes nothing.
-use Prim.Native.Nat.{ℕ, _+_, _-_, _*_, _^_, _≤_}
-use mathlib.Core.Path.{_≡_, sym, ap, ap₂, subst₂}
-use native.Mathlib.Nat.{le-trans, mul-le-mul-right, le-of-mul-le-mul-right}
+use Prim.Native.Nat.{ℕ, _+_, _-_, _*_, _/_, _%_, _^_, _≤_, _<_}
+use mathlib.Core.Path.{_≡_, sym, ap, ap₂, subst, subst₂}
+use native.Mathlib.Nat.{le-trans, mul-le-mul-right, le-of-mul-le-mul-right, mod-lt}
 use native.Mathlib.Omega.{arith}
-use lib.Pow.{pow-pos}
+use lib.Pow.{pow-pos, shr-lt, split}
 use Rattle.units.proofs.Laws.Powers.{power-splits}
 use Rattle.entry.specs.Errors.{unit, iOf, worst}
 use Rattle.entry.specs.Least.{cap, least, leastWorst}
@@ -55,3 +55,27 @@ module _ (k m c l : ℕ) (wider : k ≤ c) (finer : m ≤ l) where
       (sym (power-splits finer))
       (narrower-least-no-worse (unit k m) (iOf k n) (iOf c y) (2 ^ (c - k)) (2 ^ (l - m)) left right (cap l) (smallest-within-cap m) cap-scales) in
       omega (arith, mul-le-mul-right (unit k m) law, ap (λ (x : ℕ). leastWorst k m n * x) unit-scales)
+
+-- Demand 3: every interval of the second table lies within one of the first
+pub record Containing (k c y : ℕ) : Type 0 where
+  pub n : ℕ
+  pub in-table : n < 2 ^ k
+  pub contains : Inside k n c y
+
+pub every-interval-contained : (k c y : ℕ) → k ≤ c → y < 2 ^ c → Containing k c y
+every-interval-contained k c y wider h =
+    let n : ℕ = y / 2 ^ (c - k) in
+    let sum : c ≡ k + (c - k) = omega arith in
+    let parts : n * 2 ^ (c - k) + y % 2 ^ (c - k) ≡ y = split y (c - k) in
+    let rest : y % 2 ^ (c - k) < 2 ^ (c - k) = mod-lt y (pow-pos (c - k)) in
+    let from : n * 2 ^ (c - k) ≤ y = omega arith in
+    let to : y + 1 ≤ (n + 1) * 2 ^ (c - k) = omega arith in
+    record {
+      n = n;
+      in-table = shr-lt k (c - k) (subst (λ (x : ℕ). y < 2 ^ x) sum h);
+      contains =
+          record {
+            left = omega (arith, ap (λ (x : ℕ). iOf k n * x) (power-splits wider), ap (λ (x : ℕ). x * 2 ^ k) (power-splits wider), mul-le-mul-right (2 ^ k) from);
+            right = omega (arith, ap (λ (x : ℕ). (iOf k n + 1) * x) (power-splits wider), ap (λ (x : ℕ). x * 2 ^ k) (power-splits wider), mul-le-mul-right (2 ^ k) to);
+          };
+    }

@@ -1,6 +1,7 @@
 -- The order, demand 2. Assumes nothing.
 --     built-reaches-least, built-entry    "every entry built has the least worst relative error of all m-bit entries .. and is the entry that
 --                                         document 01 names where two are equally good"
+--     bank-built-reaches-least, bank-built-entry    the same of a bank
 --     yes-all-best, all-best-yes          "The checker says yes exactly to tables whose every entry reaches that least error."
 --     built-passes                        so it says yes to every built table
 -- and below, "A call to which no refusal number's reason applies is done and answers 0."
@@ -20,7 +21,7 @@ use Rattle.table.specs.Lookup as lookup-specs
 use Rattle.survey.specs.Survey as survey-specs
 use Rattle.survey.specs.Tally as tally-specs
 use Rattle.verdict.specs.Check as check-specs
-pub use Rattle.table.proofs.Laws.Built.{built-reaches-least, built-entry}
+pub use Rattle.table.proofs.Laws.Built.{built-reaches-least, built-entry, bank-built-reaches-least, bank-built-entry}
 pub use Rattle.verdict.proofs.Laws.Verdict.{yes-all-best, all-best-yes}
 pub use Rattle.verdict.proofs.Laws.Built.{built-passes}
 

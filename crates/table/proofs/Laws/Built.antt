@@ -11,7 +11,9 @@ use Rattle.entry.specs.Errors.{unit, iOf, jOf, worst}
 use Rattle.entry.specs.Least.{leastWorst}
 use Rattle.entry.specs.Rule.{ruleValue, ruleField}
 use Rattle.entry.proofs.Laws.Table.{rule-in-range, rule-value-reaches-least}
-use Rattle.table.specs.Build.{filled, built}
+use Rattle.table.specs.Banks.{bankStart, bankSize}
+use Rattle.table.specs.Build.{filled, built, bankTests, bankBuilt}
+use Rattle.table.proofs.Laws.Banks.{placed-bank, bank-within}
 use Rattle.table.proofs.Laws.Rows.{length-filled, filled-in, filled-after}
 
 -- the rule's field stands for the rule's value
@@ -42,3 +44,20 @@ module _ (k m : ℕ) (cells : List ℕ) (done : Passed (tableTests k m (length c
 
   pub length-built : length (built k m cells) ≡ length cells
   length-built = rw built-is (length-filled k m 0 (2 ^ k) cells (omega (arith, enough)))
+
+-- the same of a bank: "every entry built"
+module _ (k m h b : ℕ) (cells : List ℕ) (done : Passed (bankTests k m h b (length cells))) {n : ℕ}
+    (from : bankStart k h b ≤ n) (to : n < bankStart k h b + bankSize k h) where
+  within : bankStart k h b + bankSize k h ≤ 2 ^ k
+  within = let place = placed-bank k h b (length cells) (done .1 .1) in bank-within k h b (place .low) (place .number)
+
+  pub bank-built-entry : jOf m (getD (bankBuilt k m h b cells) n 0) ≡ ruleValue k m n
+  bank-built-entry =
+      let cells-are = done-by (λ (_ : Back). cells) (filled k m (bankStart k h b) (bankSize k h) cells) (bankTests k m h b (length cells)) done in
+      let lent = placed-bank k h b (length cells) (done .1 .1) .lent-all in
+      ap (λ (t : List ℕ). jOf m (getD t n 0)) (sym cells-are)
+      ∙ ap (jOf m) (filled-in k m (bankStart k h b) (bankSize k h) cells (omega (arith, within, lent)) n from to)
+      ∙ rule-field-is k m (omega (arith, within))
+
+  pub bank-built-reaches-least : worst (unit k m) (iOf k n) (jOf m (getD (bankBuilt k m h b cells) n 0)) ≡ leastWorst k m n
+  bank-built-reaches-least = ap (worst (unit k m) (iOf k n)) bank-built-entry ∙ rule-value-reaches-least k m (omega (arith, within))
