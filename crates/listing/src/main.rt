@@ -27,6 +27,13 @@ fn zeroed() -> [u16; 32768]
     [0; 32768]
 }
 
+// A page of the text. (15,15), the longest listing, has 1,365,836 bytes and takes eleven of them.
+fn blank() -> [u8; 131072]
+    ensures { λ r. ⌜ 131072 ≡ length r ⌝ }
+{
+    [0; 131072]
+}
+
 fn refuse(r: Refusal) {
     let mut page = [0u8; 134];
     let end = put_refused(&mut page, 0, r);
@@ -37,7 +44,7 @@ fn refuse(r: Refusal) {
 fn write_text(k: u32, m: u32, table: &[u16], worst: Finding)
     requires { ⌜ Listed k m (now table) (findingOf worst) ⌝ }
 {
-    let mut space = io::large_buffer();
+    let mut space = blank();
     let page: &mut [u8] = &mut space;
     let lines = power(k) as u32 + 2;
     let mut next: u32 = 0;

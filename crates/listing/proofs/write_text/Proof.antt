@@ -10,13 +10,13 @@ use Rattle.listing.proofs.write_text.Statement.{statement}
 use Rattle.listing.proofs.write_text.Tie as tie
 
 abbrev Inv-loop : tie.InvT-loop
-Inv-loop k m table worst page₀ lines next₀ page next = (length page ≡ 65536) × (next ≤ lineCount k)
+Inv-loop k m table worst page₀ lines next₀ page next = (length page ≡ 131072) × (next ≤ lineCount k)
 
 abbrev μ-loop : tie.MeasureT-loop
 μ-loop k m table worst page₀ lines next₀ page next = lineCount k - next
 
-large-buffer-requires : tie.Need-large-buffer-requires Inv-loop μ-loop
-large-buffer-requires c κs = search needs
+blank-requires : tie.Need-blank-requires Inv-loop μ-loop
+blank-requires c κs = search needs
 
 slice-aggregate-page : tie.Need-slice-aggregate-page Inv-loop μ-loop
 slice-aggregate-page c = search needs
@@ -31,7 +31,7 @@ add-lines : tie.Need-add-lines Inv-loop μ-loop
 add-lines c = omega (arith, c .power .ensures, pow-mono (c .before .before .before .before .pre .narrow-in))
 
 loop-holds : tie.Need-loop-holds Inv-loop μ-loop
-loop-holds c = (sym (c .before .before .large-buffer .ensures), omega arith)
+loop-holds c = (sym (c .before .before .blank .ensures), omega arith)
 
 fill-page-requires : tie.Need-fill-page-requires Inv-loop μ-loop
 fill-page-requires c κs =
@@ -71,7 +71,7 @@ write-text-spec =
     (tie.spec
     Inv-loop
     μ-loop
-    large-buffer-requires
+    blank-requires
     slice-aggregate-page
     power-requires
     cast-lines
