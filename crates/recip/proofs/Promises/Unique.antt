@@ -1,6 +1,5 @@
 -- "That any two answers allowed by a statement are equal is itself proved": for each call, two answers that its contract allows are one.
--- The cells that a call leaves, and the stretch that Show a bank hands out, are stated as lists, so for them there is nothing to show.
--- Assumes nothing.
+-- So are two contents of the cells that it leaves or hands out. Assumes nothing.
 use Prim.Native.Nat.{ℕ}
 use mathlib.Core.List.{List}
 use mathlib.Core.Path.{_≡_, sym, _∙_}
@@ -11,8 +10,8 @@ use Rattle.units.proofs.Laws.OneToOne.{outcome-one-to-one}
 use Rattle.entry.specs.Report as error-specs
 use Rattle.entry.specs.declared.call.ErrorAnswer.{ErrorAnswer}
 use Rattle.entry.proofs.Laws.Report as error-laws
-use Rattle.table.specs.Banks.{viewTests}
-use Rattle.table.specs.Build.{bankTests}
+use Rattle.table.specs.Banks.{viewTests, shown}
+use Rattle.table.specs.Build.{bankTests, built, bankBuilt}
 use Rattle.table.specs.Lookup as lookup-specs
 use Rattle.table.specs.declared.lookups.LookupAnswer.{LookupAnswer}
 use Rattle.table.proofs.Laws.Report as lookup-laws
@@ -96,3 +95,13 @@ pub look-up-unique : (k m x : ℕ) (cells : List ℕ) (a b : LookupAnswer)
     → lookup-specs.reported b ≡ lookup-specs.lookupReport k m x cells
     → a ≡ b
 look-up-unique k m x cells = unique lookup-specs.reported lookup-laws.reported-one-to-one _
+
+-- the contents of cells: what Build and Build a bank leave, and what Show a bank hands out
+pub build-cells-unique : (k m : ℕ) (cells a b : List ℕ) → a ≡ built k m cells → b ≡ built k m cells → a ≡ b
+build-cells-unique k m cells a b p q = p ∙ sym q
+
+pub build-bank-cells-unique : (k m h n : ℕ) (cells a b : List ℕ) → a ≡ bankBuilt k m h n cells → b ≡ bankBuilt k m h n cells → a ≡ b
+build-bank-cells-unique k m h n cells a b p q = p ∙ sym q
+
+pub show-bank-unique : (k h n : ℕ) (cells a b : List ℕ) → a ≡ shown k h n cells → b ≡ shown k h n cells → a ≡ b
+show-bank-unique k h n cells a b p q = p ∙ sym q
