@@ -64,7 +64,7 @@ fn list(k: u32, m: u32) {
     match build(k, m, table) {
         Outcome::Refused(r) => refuse(r),
         Outcome::Done => {
-            // The survey of a table that was built is never refused.
+            // The survey of a table that was built is never refused (`built-survey-done`).
             if let SurveyAnswer::Surveyed(worst) = survey_table(k, m, table) {
                 write_text(k, m, table, worst);
             }
@@ -72,7 +72,8 @@ fn list(k: u32, m: u32) {
     }
 }
 
-// The longest line has 6 bytes, so 8 are enough to tell a line from any other input.
+// The longest line has 6 bytes, so 8 are enough to tell a line from any other input
+// (`eight-bytes-decide`).
 fn main() {
     let mut input = [0u8; 8];
     let got = io::read_full(STDIN_FILENO, &mut input);

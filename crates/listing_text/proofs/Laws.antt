@@ -1,5 +1,6 @@
 pub mod Line
 pub mod Grammar
+pub mod Report
 pub mod Put
 pub mod Decimal
 pub mod Pages

@@ -17,8 +17,9 @@ use Rattle.survey.specs.Survey.{Report, refused, surveyed, reported, surveyRepo
 use Rattle.survey.specs.Tally.{findingOf}
 use Rattle.survey.specs.declared.tallies.Finding.{Finding}
 use Rattle.survey.specs.declared.surveys.SurveyAnswer.the-variants.{Surveyed}
+use Rattle.verdict.specs.Check as check-specs
 use Rattle.listing_text.specs.Listing.{Listed}
-use Rattle.recip.proofs.Promises.Demand2.{survey-number}
+use Rattle.recip.proofs.Promises.Demand2.{survey-number, check-number, built-passes}
 
 module _ (k m : ℕ) (cells : List ℕ) (done : Passed (tableTests k m (length cells))) where
   fields-are : take (2 ^ k) (built k m cells) ≡ rows k m 0 (2 ^ k)
@@ -45,3 +46,10 @@ module _ (k m : ℕ) (cells : List ℕ) (done : Passed (tableTests k m (length c
         fields = λ n h. built-field k m cells done h;
         surveyed = found-is f e;
       }
+
+  -- the survey of a table that was built is never refused: its tests are the check's, and the table passes that
+  pub built-survey-done : surveyReport k m (built k m cells) .number ≡ 0
+  built-survey-done =
+      survey-number (tableTests k m (length (built k m cells))) k m 0 (take (2 ^ k) (built k m cells))
+      ∙ sym (check-number k m (built k m cells))
+      ∙ ap (λ (r : check-specs.Report). r .number) (built-passes k m cells done)

@@ -8,8 +8,8 @@ use native.Mathlib.Numerals.{add-one}
 use native.Mathlib.Omega.{arith}
 use borrow.Author.Tests.{le-leb, leb-true, eqb-true}
 use lib.Dec.{leb, eqb}
-use lib.ListN.{length, drop, List·getD-eq-default, drop-of-length-le}
-use lib.Seq.{drop-cons}
+use lib.ListN.{length, take, drop, length-append, List·getD-eq-default, drop-of-length-le}
+use lib.Seq.{drop-cons, take-all, length-take-le}
 use Rattle.units.proofs.Laws.Order.{by-order}
 use Rattle.listing_text.specs.Line.{byteAt, isDigit, wordEnd, wordValue, formed, isLine, Line, widths, refused, lineRead}
 
@@ -172,3 +172,22 @@ reads-written s k m e =
 -- "Otherwise it writes "refused 7"."
 pub otherwise-refused : (s : List ℕ) → ((k m : ℕ) → Written s k m → ⊥) → lineRead s ≡ refused 7
 otherwise-refused s none = by-line s (isLine s) refl (λ h. absurd (none _ _ (line-written s h))) (not-line-refused s)
+
+-- no line has more than 6 bytes
+few-digits : {a : List ℕ} {k : ℕ} → Digits a k → length a ≤ 2
+few-digits (one v h) = omega arith
+few-digits (two u v g h) = omega arith
+
+written-short : {s : List ℕ} {k m : ℕ} → Written s k m → length s ≤ 6
+written-short w =
+    rw (w .whole, length-append (w .first) (32 ∷ (w .second ++ (10 ∷ []))), length-append (w .second) (10 ∷ []))
+    (omega (arith, few-digits (w .input-width), few-digits (w .output-width)))
+
+long-refused : (s : List ℕ) → 6 < length s → lineRead s ≡ refused 7
+long-refused s h = otherwise-refused s (λ k m w. absurd (omega (arith, written-short w)))
+
+-- so the first 8 bytes of an input decide
+pub eight-bytes-decide : (s : List ℕ) → lineRead (take 8 s) ≡ lineRead s
+eight-bytes-decide s =
+    by-order (length s) 8 (λ short. ap lineRead (take-all 8 s short))
+    (λ long. long-refused (take 8 s) (omega (arith, length-take-le 8 s (omega arith))) ∙ sym (long-refused s (omega arith)))
