@@ -5,7 +5,10 @@ ghost use Prim.Native.Nat.{_≤_};
 ghost use mathlib.Core.Path.{_≡_};
 ghost use lib.ListN.{length};
 ghost use Rattle.survey.specs.Tally.{findingOf};
-ghost use Rattle.listing_text.specs.Listing.{Listed};
+ghost use Rattle.units.specs.Refusals.{refusalNumber};
+ghost use Rattle.listing_text.specs.Line.{lineRead, widths};
+ghost use Rattle.listing_text.specs.Text.{refusedLine};
+ghost use Rattle.listing_text.specs.Listing.{Listed, listing, tableText};
 use libc::STDIN_FILENO;
 use libc::STDOUT_FILENO;
 use listing_text::Reading;
@@ -34,15 +37,20 @@ fn blank() -> [u8; 131072]
     [0; 131072]
 }
 
-fn refuse(r: Refusal) {
+// Below, `input` is lent for the contracts alone: each function is given what the text for this input
+// asks for.
+
+fn refuse(input: &[u8], r: Refusal)
+    requires { ⌜ refusedLine (refusalNumber r) ≡ listing (now input) ⌝ }
+{
     let mut page = [0u8; 134];
     let end = put_refused(&mut page, 0, r);
     io::write_all(STDOUT_FILENO, &page[..end]);
 }
 
 // Writes the text a page at a time. It stops where a write fails.
-fn write_text(k: u32, m: u32, table: &[u16], worst: Finding)
-    requires { ⌜ Listed k m (now table) (findingOf worst) ⌝ }
+fn write_text(input: &[u8], k: u32, m: u32, table: &[u16], worst: Finding)
+    requires { ⌜ (tableText k m ≡ listing (now input)) × (Listed k m (now table) (findingOf worst)) ⌝ }
 {
     let mut space = blank();
     let page: &mut [u8] = &mut space;
@@ -58,15 +66,17 @@ fn write_text(k: u32, m: u32, table: &[u16], worst: Finding)
     }
 }
 
-fn list(k: u32, m: u32) {
+fn list(input: &[u8], k: u32, m: u32)
+    requires { ⌜ lineRead (now input) ≡ widths k m ⌝ }
+{
     let mut cells = zeroed();
     let table: &mut [u16] = &mut cells;
     match build(k, m, table) {
-        Outcome::Refused(r) => refuse(r),
+        Outcome::Refused(r) => refuse(input, r),
         Outcome::Done => {
             // The survey of a table that was built is never refused (`built-survey-done`).
             if let SurveyAnswer::Surveyed(worst) = survey_table(k, m, table) {
-                write_text(k, m, table, worst);
+                write_text(input, k, m, table, worst);
             }
         }
     }
@@ -77,8 +87,9 @@ fn list(k: u32, m: u32) {
 fn main() {
     let mut input = [0u8; 8];
     let got = io::read_full(STDIN_FILENO, &mut input);
-    match read_line(&input[..got]) {
-        Reading::Widths { k, m } => list(k, m),
-        Reading::Refused(r) => refuse(r),
+    let line = &input[..got];
+    match read_line(line) {
+        Reading::Widths { k, m } => list(line, k, m),
+        Reading::Refused(r) => refuse(line, r),
     }
 }

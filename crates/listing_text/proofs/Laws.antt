@@ -4,3 +4,4 @@ pub mod Report
 pub mod Put
 pub mod Decimal
 pub mod Pages
+pub mod Listing

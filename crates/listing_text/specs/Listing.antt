@@ -3,12 +3,14 @@ use Prim.Native.Nat.{ℕ, zero, suc, _+_, _-_, _^_, _≤_, _<_}
 use mathlib.Core.Path.{_≡_}
 use mathlib.Core.Bool.{cond}
 use mathlib.Core.List.{List, [], _++_}
-use lib.Dec.{ltb}
+use lib.Dec.{ltb, eqb}
 use lib.ListN.{length, take, getD}
+use Rattle.units.specs.Refusals.{Back, answer, tableTests}
 use Rattle.entry.specs.Rule.{ruleField}
 use Rattle.table.specs.Build.{rows}
 use Rattle.survey.specs.Finding.{Found, fresh, found}
-use Rattle.listing_text.specs.Text.{firstLine, entryLine, lastLine}
+use Rattle.listing_text.specs.Text.{firstLine, entryLine, lastLine, refusedLine}
+use Rattle.listing_text.specs.Line.{Line, lineRead}
 
 -- the survey of the best table
 abbrev pub bestFound : ℕ → ℕ → Found
@@ -31,6 +33,17 @@ lineCount k = 2 ^ k + 2
 -- the whole text of the listing for widths from 1 to 15
 abbrev pub tableText : ℕ → ℕ → List ℕ
 tableText k m = linesFrom k m 0 (lineCount k)
+
+-- "It keeps one table of 32,768 cells": the text for two widths, or that of their refusal
+abbrev pub widthsText : ℕ → ℕ → List ℕ
+widthsText k m = answer (λ (b : Back). refusedLine (b .number)) (tableText k m) (tableTests k m 32768)
+
+-- the text for an input. "In the listing 7 comes before all others."
+unfoldable pub textOf : Line → List ℕ
+textOf l = cond (eqb (l .number) 0) (widthsText (l .k) (l .m)) (refusedLine (l .number))
+
+abbrev pub listing : List ℕ → List ℕ
+listing input = textOf (lineRead input)
 
 -- what is listed: the best table, and its survey
 pub record Listed (k m : ℕ) (cells : List ℕ) (worst : Found) : Type 0 where

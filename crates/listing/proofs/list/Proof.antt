@@ -1,14 +1,15 @@
--- `listing::list` gives each call what it requires: what it writes is the best table, and its survey. Assumes nothing.
-use mathlib.Core.List.{List}
-use mathlib.Core.Path.{sym, ap, _∙_, subst⁻¹}
+-- `listing::list` gives each call what it requires: what it writes is what its input asks for. Assumes nothing.
 use Prim.Native.Nat.{ℕ}
+use mathlib.Core.List.{List}
+use mathlib.Core.Path.{_≡_, sym, ap, _∙_, subst, subst⁻¹}
 use native.Mathlib.Omega.{arith}
 use lib.ListN.{length}
-use Rattle.units.specs.Refusals.{backOf, tableTests}
-use Rattle.units.proofs.Laws.Tests.{Passed, passed}
+use Rattle.units.specs.Refusals.{backOf, refusal, tableTests}
+use Rattle.units.proofs.Laws.Tests.{Passed, passed, refusal-numbered}
 use Rattle.survey.specs.Survey.{reported, surveyReport}
 use Rattle.survey.specs.Tally.{findingOf}
 use Rattle.listing_text.specs.Listing.{Listed}
+use Rattle.listing_text.proofs.Laws.Listing.{refused-widths-text, listed-widths-text}
 use Rattle.listing.proofs.Laws.Listed.{listed}
 use borrow.Author.Needs.{needs}
 use Rattle.listing.proofs.list.Statement.{statement}
@@ -27,7 +28,14 @@ enum-known-r : tie.Need-enum-known-r
 enum-known-r c = search needs
 
 refuse-requires : tie.Need-refuse-requires
-refuse-requires c κs = search needs
+refuse-requires c κs =
+    let start = c .before .before .before .before .before .before .before .before .before .before .before in
+    let build = c .before .before .before .before .before .before .build in
+    let size : length (c .before .before .before .before .before .before .before .before .before .zeroed .result) ≡ 32768 = sym (c .before .before .before .before .before .before .before .before .before .zeroed .ensures) in
+    let r = c .before .before .r .given in
+    refused-widths-text (start .args .input .now) (start .args .k) (start .args .m) (start .pre)
+    (sym (ap backOf (r .1)) ∙ build .ensures .0 ∙ ap (λ (lent : ℕ). refusal (tableTests (start .args .k) (start .args .m) lent)) size)
+    (refusal-numbered (r .0 .0))
 
 enum-told : tie.Need-enum-told
 enum-told c = search needs
@@ -40,15 +48,19 @@ enum-known-worst c = search needs
 
 write-text-requires : tie.Need-write-text-requires
 write-text-requires c κs =
-    let args = c .before .before .before .before .before .before .before .before .before .before .before .before .before .before .args in
+    let start = c .before .before .before .before .before .before .before .before .before .before .before .before .before .before .before in
+    let args = start .args in
     let cells = c .before .before .before .before .before .before .before .before .before .before .before .before .before .zeroed .result in
     let build = c .before .before .before .before .before .before .before .before .before .before .build in
     let done : Passed (tableTests (args .k) (args .m) (length cells)) =
     passed _ (omega arith) (sym (ap backOf (c .before .before .before .before .before .before .enum-told .given .1)) ∙ build .ensures .0) in
-    let worst = c .before .before .worst .given in
-    subst⁻¹ (λ (x : List ℕ). Listed (args .k) (args .m) x (findingOf (worst .0 .0))) (build .ensures .1)
-    (listed (args .k) (args .m) cells done (worst .0 .0)
-    (sym (ap reported (worst .1)) ∙ c .before .before .before .before .whole .ensures ∙ ap (surveyReport (args .k) (args .m)) (build .ensures .1)))
+    let worst = c .before .before .worst .given in (
+      listed-widths-text (args .input .now) (args .k) (args .m) (start .pre)
+          (subst (λ (lent : ℕ). Passed (tableTests (args .k) (args .m) lent)) (sym (c .before .before .before .before .before .before .before .before .before .before .before .before .before .zeroed .ensures)) done),
+      subst⁻¹ (λ (x : List ℕ). Listed (args .k) (args .m) x (findingOf (worst .0 .0))) (build .ensures .1)
+          (listed (args .k) (args .m) cells done (worst .0 .0)
+          (sym (ap reported (worst .1)) ∙ c .before .before .before .before .whole .ensures ∙ ap (surveyReport (args .k) (args .m)) (build .ensures .1))),
+    )
 
 returns : tie.Need-returns
 returns c = search needs

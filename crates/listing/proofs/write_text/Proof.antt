@@ -10,10 +10,10 @@ use Rattle.listing.proofs.write_text.Statement.{statement}
 use Rattle.listing.proofs.write_text.Tie as tie
 
 abbrev Inv-loop : tie.InvT-loop
-Inv-loop k m table worst page₀ lines next₀ page next = (length page ≡ 131072) × (next ≤ lineCount k)
+Inv-loop input k m table worst page₀ lines next₀ page next = (length page ≡ 131072) × (next ≤ lineCount k)
 
 abbrev μ-loop : tie.MeasureT-loop
-μ-loop k m table worst page₀ lines next₀ page next = lineCount k - next
+μ-loop input k m table worst page₀ lines next₀ page next = lineCount k - next
 
 blank-requires : tie.Need-blank-requires Inv-loop μ-loop
 blank-requires c κs = search needs
@@ -22,20 +22,20 @@ slice-aggregate-page : tie.Need-slice-aggregate-page Inv-loop μ-loop
 slice-aggregate-page c = search needs
 
 power-requires : tie.Need-power-requires Inv-loop μ-loop
-power-requires c κs = omega (arith, c .before .before .before .pre .narrow-in)
+power-requires c κs = omega (arith, c .before .before .before .before .pre .1 .narrow-in)
 
 cast-lines : tie.Need-cast-lines Inv-loop μ-loop
-cast-lines c = omega (arith, c .power .ensures, pow-mono (c .before .before .before .before .pre .narrow-in))
+cast-lines c = omega (arith, c .power .ensures, pow-mono (c .before .before .before .before .before .pre .1 .narrow-in))
 
 add-lines : tie.Need-add-lines Inv-loop μ-loop
-add-lines c = omega (arith, c .power .ensures, pow-mono (c .before .before .before .before .pre .narrow-in))
+add-lines c = omega (arith, c .power .ensures, pow-mono (c .before .before .before .before .before .pre .1 .narrow-in))
 
 loop-holds : tie.Need-loop-holds Inv-loop μ-loop
 loop-holds c = (sym (c .before .before .blank .ensures), omega arith)
 
 fill-page-requires : tie.Need-fill-page-requires Inv-loop μ-loop
 fill-page-requires c κs =
-    let inv = c .before .before .loop .inv in (c .before .before .before .before .before .before .before .pre, (inv .1, omega (arith, inv .0)))
+    let inv = c .before .before .loop .inv in (c .before .before .before .before .before .before .before .before .pre .1, (inv .1, omega (arith, inv .0)))
 
 sub-write-all : tie.Need-sub-write-all Inv-loop μ-loop
 sub-write-all c = search needs
@@ -55,7 +55,7 @@ returns c = search needs
 loop-less : tie.Need-loop-less Inv-loop μ-loop
 loop-less c =
     let filled = c .before .before .before .before .before .before .fill-page .ensures in
-    let more : c .before .before .before .before .before .before .before .before .before .loop .next < lineCount (c .before .before .before .before .before .before .before .before .before .before .before .before .before .before .args .k) = omega (arith, c .before .before .before .before .before .before .before .before .before .before .power .ensures) in
+    let more : c .before .before .before .before .before .before .before .before .before .loop .next < lineCount (c .before .before .before .before .before .before .before .before .before .before .before .before .before .before .before .args .k) = omega (arith, c .before .before .before .before .before .before .before .before .before .before .power .ensures) in
     omega (arith, filled .further more, filled .within)
 
 loop-again : tie.Need-loop-again Inv-loop μ-loop
