@@ -1,9 +1,11 @@
 // "A running tally takes one entry at a time and is handed back."
 ghost use mathlib.Core.Path.{_≡_};
-ghost use Rattle.entry.specs.Errors.{jOf};
+ghost use Prim.Native.Nat.{max};
+ghost use Rattle.entry.specs.Errors.{jOf, larger as largerSide};
 ghost use Rattle.entry.specs.Bounds.{With};
-ghost use Rattle.survey.specs.Finding.{entryFound, larger};
+ghost use Rattle.survey.specs.Finding.{larger};
 ghost use Rattle.survey.specs.Tally.{findingOf, stateOf, started, talliedAt, reported, tallyReport};
+use entry::Sizes;
 use entry::entry_of;
 use entry::placed;
 use entry::sizes_of;
@@ -36,29 +38,21 @@ pub enum TallyAnswer {
     Refused(Refusal, Tally),
 }
 
-// What the field f of interval n has.
-fn entry_finding(k: u32, m: u32, n: Interval, f: u16) -> Finding
-    requires { ⌜ With k m (n .0) (jOf m f) ⌝ }
-    ensures { λ r. ⌜ findingOf r ≡ entryFound k m (n .0) f ⌝ }
-{
-    let sizes = sizes_of(k, m, n, entry_of(m, f));
-    Finding {
-        worst: sizes.worst(),
-        n: n,
-        side: sizes.side(),
-    }
-}
-
 impl Finding {
-    // "An entry replaces the finding only where its worst is larger."
-    fn or_larger(self, new: Finding) -> Finding
-        ensures { λ r. ⌜ findingOf r ≡ larger (findingOf self) (findingOf new) ⌝ }
+    // "An entry replaces the finding only where its worst is larger": the entry of interval n, with
+    // errors of these sizes.
+    fn or_larger(self, n: Interval, sizes: Sizes) -> Finding
+        ensures { λ r. ⌜ findingOf r ≡ larger (findingOf self) (record { worst = max (sizes .low .0) (sizes .high .0); n = n .0; side = largerSide (sizes .low .0) (sizes .high .0) }) ⌝ }
     {
-        if self.worst.0 < new.worst.0 {
-            new
-        } else {
-            self
+        let worst = sizes.worst();
+        if self.worst.0 < worst.0 {
+            return Finding {
+                worst: worst,
+                n: n,
+                side: sizes.side(),
+            };
         }
+        self
     }
 }
 
@@ -80,8 +74,9 @@ impl Tally {
         }
     }
 
-    // A method with self takes n and f and returns the next tally. It has no tests of its own.
-    pub fn add(self, n: Interval, f: u16) -> Tally
+    // A method with self takes n and f and returns the next tally. It has no tests of its own, so no
+    // other crate can call it.
+    pub(crate) fn add(self, n: Interval, f: u16) -> Tally
         requires { ⌜ With (self .k) (self .m) (n .0) (jOf (self .m) f) ⌝ }
         ensures { λ r. ⌜ stateOf r ≡ talliedAt (stateOf self) (n .0) f ⌝ }
     {
@@ -90,7 +85,7 @@ impl Tally {
             k: self.k,
             m: self.m,
             next: Interval(n.0 + 1),
-            finding: old.or_larger(entry_finding(self.k, self.m, n, f)),
+            finding: old.or_larger(n, sizes_of(self.k, self.m, n, entry_of(self.m, f))),
         }
     }
 

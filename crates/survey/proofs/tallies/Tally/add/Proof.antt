@@ -1,28 +1,29 @@
--- `survey::Tally::add` meets its contract: the finding is the larger of the two, and n is below 2^15. Assumes nothing.
-use Prim.Native.Nat.{_+_}
-use mathlib.Core.Path.{ap, _∙_}
+-- `survey::Tally::add` meets its contract: the sizes are those of low and high, the finding is the larger of the two, and n is below 2^15.
+-- Assumes nothing.
 use native.Mathlib.Omega.{arith}
 use borrow.Author.Needs.{needs}
 use lib.Pow.{pow-mono}
-use Rattle.survey.specs.Finding.{Found, larger}
-use Rattle.survey.specs.Tally.{findingOf}
+use Rattle.entry.specs.Errors.{worst, side}
 use Rattle.survey.proofs.tallies.Tally.add.Statement.{statement}
 use Rattle.survey.proofs.tallies.Tally.add.Tie as tie
 
 add-t5 : tie.Need-add-t5
 add-t5 c = omega (arith, c .before .before .pre .place .interval, pow-mono (c .before .before .pre .place .narrow-in))
 
-entry-finding-requires : tie.Need-entry-finding-requires
-entry-finding-requires c κs = search needs
+entry-of-requires : tie.Need-entry-of-requires
+entry-of-requires c κs = search needs
+
+sizes-of-requires : tie.Need-sizes-of-requires
+sizes-of-requires c κs = search needs
 
 or-larger-requires : tie.Need-or-larger-requires
 or-larger-requires c κs = search needs
 
 returns : tie.Need-returns
+unfolding worst side
 returns c =
-    let start = c .before .before .before .before in
-    ap (λ (F : Found). record { k = start .args .self .k; m = start .args .self .m; next = start .args .n .0 + 1; finding = F })
-    (c .or-larger .ensures ∙ ap (larger (findingOf (start .args .self .finding))) (c .before .entry-finding .ensures))
+    let sizes = c .before .sizes-of .ensures in
+    simp (c .or-larger .ensures, sizes .0, sizes .1, c .before .before .entry-of .ensures)
 
 pub add-spec : {M : Type 1} → statement M
-add-spec = tie.close (tie.spec add-t5 entry-finding-requires or-larger-requires returns)
+add-spec = tie.close (tie.spec add-t5 entry-of-requires sizes-of-requires or-larger-requires returns)
