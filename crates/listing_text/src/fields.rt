@@ -1,8 +1,9 @@
 // Text put into a page, piece after piece.
-ghost use mathlib.Core.Path.{_≡_};
 ghost use Prim.Native.Nat.{_+_, _≤_};
 ghost use lib.ListN.{length};
 ghost use Rattle.listing_text.specs.Text.{field, signed, Put};
+use crate::digits::places;
+use crate::digits::put_digits;
 use units::Error;
 
 // Puts a text at a place of the page, and answers the place after it.
@@ -25,9 +26,8 @@ pub fn put_field(page: &mut [u8], at: usize, label: &[u8], n: u64) -> usize
     ensures room { λ r. ⌜ r ≤ at + (length (now (label .entry)) + 20) ⌝ }
 {
     let next = put(page, at, label);
-    let mut text = [0u8; 20];
-    let count = io::decimal(n, &mut text);
-    put(page, next, &text[..count])
+    let count = places(n);
+    put_digits(page, next, n, count)
 }
 
 // An error, after a space.

@@ -1,4 +1,5 @@
 // The listing's input line and its text, byte for byte.
+mod digits;
 mod fields;
 mod line;
 mod lines;
