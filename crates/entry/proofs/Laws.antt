@@ -7,5 +7,7 @@ pub mod Table
 pub mod Ceiling
 pub mod Narrowing
 pub mod Bounds
+pub mod Quotient
 pub mod Ends
+pub mod Stored
 pub mod Report

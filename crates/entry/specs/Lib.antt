@@ -1,6 +1,7 @@
 pub mod Errors
 pub mod Least
 pub mod Rule
+pub mod Quotient
 pub mod Ceiling
 pub mod Inside
 pub mod Bounds

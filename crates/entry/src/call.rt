@@ -4,12 +4,12 @@ ghost use Rattle.units.specs.Refusals.{backOf, refusal};
 ghost use Rattle.entry.specs.Report.{reported, placeTests, entryReport};
 use crate::measure::Errors;
 use crate::measure::errors_of;
-use crate::numbers::entry_of;
+use crate::numbers::Stored;
+use crate::numbers::read_field;
 use units::Interval;
 use units::Outcome;
 use units::Refusal;
 use units::interval_place;
-use units::reaches;
 use units::widths;
 
 // What "Entry error" answers.
@@ -32,11 +32,9 @@ pub fn entry_error(k: u32, m: u32, n: Interval, f: u16) -> ErrorAnswer
 {
     match placed(k, m, n) {
         Outcome::Refused(r) => ErrorAnswer::Refused(r),
-        Outcome::Done => {
-            if reaches(m, f as u64) {
-                return ErrorAnswer::TooWide(n);
-            }
-            ErrorAnswer::Done(errors_of(k, m, n, entry_of(m, f)))
-        }
+        Outcome::Done => match read_field(m, f) {
+            Stored::TooWide => ErrorAnswer::TooWide(n),
+            Stored::Entry(j) => ErrorAnswer::Done(errors_of(k, m, n, j)),
+        },
     }
 }

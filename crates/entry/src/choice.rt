@@ -5,24 +5,16 @@ ghost use Prim.Native.Nat.{_+_, _*_, _^_, _≤_, _<_};
 ghost use lib.Dec.{leb, eqb};
 ghost use Rattle.entry.specs.Bounds.{At};
 ghost use Rattle.entry.specs.Least.{cap, leastWorst, isBest};
-ghost use Rattle.entry.specs.Rule.{rule, ruleValue, ruleField};
+ghost use Rattle.entry.specs.Rule.{ruleValue, ruleField};
 use crate::measure::sizes_of;
 use crate::numbers::cap_of;
+use crate::numbers::entry_of;
 use crate::numbers::left_end;
 use crate::numbers::unit_of;
+use crate::quotients::quotient_before;
 use units::Entry;
 use units::Interval;
 use units::Worst;
-use units::power;
-
-// The whole number nearest to 2u/(2i+1), but never above most. One division.
-fn nearest_within(u: u64, i: u64, most: u64) -> u64
-    requires { ⌜ (u ≤ 2 ^ 31) × ((0 < i) × (i < 2 ^ 16)) ⌝ }
-    ensures { λ r. ⌜ r ≡ rule u i most ⌝ }
-{
-    let nearest = (2 * u + i) / (2 * i + 1);
-    if nearest <= most { nearest } else { most }
-}
 
 // Whether j is not too high and, unless it is the most, not too low. One product and no division.
 fn passes(u: u64, i: u64, most: u64, j: u64) -> bool
@@ -39,20 +31,20 @@ fn passes(u: u64, i: u64, most: u64, j: u64) -> bool
     2 * u <= middle + i + 1
 }
 
-// The builder's value for interval n.
-pub fn best(k: u32, m: u32, n: Interval) -> Entry
-    requires { ⌜ At k m (n .0) ⌝ }
-    ensures { λ r. ⌜ r .0 ≡ ruleValue k m (n .0) ⌝ }
-{
-    Entry(nearest_within(unit_of(k, m), left_end(k, n), cap_of(m).0 as u64) as u32)
-}
-
 // The field that the builder stores for interval n.
 pub fn best_field(k: u32, m: u32, n: Interval) -> u16
     requires { ⌜ At k m (n .0) ⌝ }
     ensures { λ r. ⌜ r ≡ ruleField k m (n .0) ⌝ }
 {
-    (best(k, m, n).0 as u64 - power(m)) as u16
+    quotient_before(k, m, n).next(m).field(m)
+}
+
+// The builder's value for interval n.
+pub fn best(k: u32, m: u32, n: Interval) -> Entry
+    requires { ⌜ At k m (n .0) ⌝ }
+    ensures { λ r. ⌜ r .0 ≡ ruleValue k m (n .0) ⌝ }
+{
+    entry_of(m, best_field(k, m, n))
 }
 
 // The least worst error that any value has over interval n.

@@ -1,6 +1,8 @@
 // The numbers that document 01 makes of widths, an index and a field.
 ghost use mathlib.Core.Path.{_≡_};
+ghost use mathlib.Core.Bool.{cond};
 ghost use Prim.Native.Nat.{_<_, _≤_, _^_};
+ghost use lib.Dec.{leb};
 ghost use Rattle.entry.specs.Bounds.{At};
 ghost use Rattle.entry.specs.Errors.{unit, iOf, jOf};
 ghost use Rattle.entry.specs.Least.{cap};
@@ -30,6 +32,23 @@ pub fn entry_of(m: u32, f: u16) -> Entry
     ensures { λ r. ⌜ r .0 ≡ jOf m f ⌝ }
 {
     Entry(power(m) as u32 + f as u32)
+}
+
+// What a field that may be over-wide stores.
+pub enum Stored {
+    Entry(Entry),
+    TooWide,
+}
+
+pub fn read_field(m: u32, f: u16) -> Stored
+    requires { ⌜ m ≤ 15 ⌝ }
+    ensures { λ r. ⌜ r ≡ cond (leb (2 ^ m) f) Stored.TooWide (Stored.Entry (record { 0 = jOf m f })) ⌝ }
+{
+    let size = power(m) as u32;
+    if size <= f as u32 {
+        return Stored::TooWide;
+    }
+    Stored::Entry(Entry(size + f as u32))
 }
 
 // The largest value that a field can hold.

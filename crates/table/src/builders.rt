@@ -3,22 +3,25 @@ ghost use mathlib.Core.Path.{_≡_};
 ghost use Prim.Native.Nat.{_+_, _≤_, _^_};
 ghost use lib.ListN.{length};
 ghost use Rattle.units.specs.Refusals.{backOf, refusal, tableTests};
+ghost use Rattle.entry.specs.Bounds.{At};
 ghost use Rattle.table.specs.Build.{rows, built, bankTests, bankBuilt};
 use crate::banks::bank_at;
 use crate::banks::bank_in_table;
-use entry::best_field;
+use entry::quotient_before;
 use units::Interval;
 use units::Outcome;
 use units::widths;
 
 // Writes the rule's field of each interval from first on into a cell of its own. One division a cell.
 fn fill(k: u32, m: u32, first: u32, cells: &mut [u16])
-    requires { ⌜ (k ≤ 15) × ((m ≤ 15) × (first + length (now cells) ≤ 2 ^ k)) ⌝ }
+    requires { ⌜ (At k m first) × (first + length (now cells) ≤ 2 ^ k) ⌝ }
     ensures { λ _. ⌜ now (cells .exit) ≡ rows k m first (length (now (cells .entry))) ⌝ }
 {
+    let mut quotient = quotient_before(k, m, Interval(first));
     let mut at: usize = 0;
     while at < cells.len() {
-        cells[at] = best_field(k, m, Interval(first + at as u32));
+        quotient = quotient.next(m);
+        cells[at] = quotient.field(m);
         at += 1;
     }
 }

@@ -3,14 +3,14 @@ ghost use mathlib.Core.Path.{_≡_};
 ghost use Prim.Native.Nat.{_≤_, _<_, _^_};
 ghost use Rattle.units.specs.Refusals.{backOf, refusal};
 ghost use Rattle.table.specs.Lookup.{indexOf, divisorTests, reported, lookupReport};
-use entry::entry_of;
+use entry::Stored;
+use entry::read_field;
 use units::Entry;
 use units::Interval;
 use units::Outcome;
 use units::Refusal;
 use units::divisor_range;
 use units::power;
-use units::reaches;
 use units::whole_table;
 
 // What "Look up" answers.
@@ -31,7 +31,10 @@ fn index_of(k: u32, x: u32) -> usize
 fn findable(k: u32, m: u32, x: u32, lent: usize) -> Outcome
     ensures { λ r. ⌜ backOf r ≡ refusal (divisorTests k m x lent) ⌝ }
 {
-    whole_table(k, m, lent).then(divisor_range(x))
+    match whole_table(k, m, lent) {
+        Outcome::Refused(r) => Outcome::Refused(r),
+        Outcome::Done => divisor_range(x),
+    }
 }
 
 // "Look up takes a divisor X from 32768 to 65535, which means x = X/32768 .. It gives n and j; of all
@@ -44,13 +47,9 @@ pub fn look_up(k: u32, m: u32, x: u32, table: &[u16]) -> LookupAnswer
         Outcome::Done => {
             let at = index_of(k, x);
             let n = Interval(at as u32);
-            let f = table[at];
-            if reaches(m, f as u64) {
-                return LookupAnswer::TooWide(n);
-            }
-            LookupAnswer::Found {
-                n: n,
-                j: entry_of(m, f),
+            match read_field(m, table[at]) {
+                Stored::TooWide => LookupAnswer::TooWide(n),
+                Stored::Entry(j) => LookupAnswer::Found { n: n, j: j },
             }
         }
     }

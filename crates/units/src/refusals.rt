@@ -78,14 +78,14 @@ fn refused_if(holds: bool, r: Refusal) -> Outcome
     }
 }
 
-// Refused unless x is from least to most.
-fn refused_outside(least: u32, most: u32, x: u32, r: Refusal) -> Outcome
-    ensures { λ o. ⌜ backOf o ≡ refusal (test (outside least most x) (back (refusalNumber r) 0) ∷ []) ⌝ }
+// Whether x is not from least to most.
+fn is_outside(least: u32, most: u32, x: u32) -> bool
+    ensures { λ r. ⌜ r ≡ outside least most x ⌝ }
 {
     if x < least {
-        return Outcome::Refused(r);
+        return true;
     }
-    refused_if(most < x, r)
+    most < x
 }
 
 // Whether x is 2^w or more, for any w.
@@ -105,18 +105,31 @@ fn refused_past(w: u32, x: u64, r: Refusal) -> Outcome
     refused_if(reaches(w, x), r)
 }
 
+// "not 1..15", of either width.
+fn no_width(w: u32) -> bool
+    ensures { λ r. ⌜ r ≡ outside 1 15 w ⌝ }
+{
+    is_outside(1, 15, w)
+}
+
+fn refused_width(w: u32, r: Refusal) -> Outcome
+    ensures { λ o. ⌜ backOf o ≡ refusal (test (outside 1 15 w) (back (refusalNumber r) 0) ∷ []) ⌝ }
+{
+    refused_if(no_width(w), r)
+}
+
 // 1: "k not 1..15".
 pub fn input_width(k: u32) -> Outcome
     ensures { λ r. ⌜ backOf r ≡ refusal (inputWidth k ∷ []) ⌝ }
 {
-    refused_outside(1, 15, k, Refusal::InputWidth)
+    refused_width(k, Refusal::InputWidth)
 }
 
 // 2: "m not 1..15".
 pub fn output_width(m: u32) -> Outcome
     ensures { λ r. ⌜ backOf r ≡ refusal (outputWidth m ∷ []) ⌝ }
 {
-    refused_outside(1, 15, m, Refusal::OutputWidth)
+    refused_width(m, Refusal::OutputWidth)
 }
 
 // 3: fewer than 2^w cells lent.
@@ -154,7 +167,7 @@ pub fn interval_place(k: u32, n: Interval) -> Outcome
 pub fn divisor_range(x: u32) -> Outcome
     ensures { λ r. ⌜ backOf r ≡ refusal (divisor x ∷ []) ⌝ }
 {
-    refused_outside(32768, 65535, x, Refusal::Divisor)
+    refused_if(is_outside(32768, 65535, x), Refusal::Divisor)
 }
 
 // 1 and 2, with which every call that takes both widths begins.
@@ -168,5 +181,11 @@ pub fn widths(k: u32, m: u32) -> Outcome
 pub fn whole_table(k: u32, m: u32, lent: usize) -> Outcome
     ensures { λ r. ⌜ backOf r ≡ refusal (tableTests k m lent) ⌝ }
 {
-    widths(k, m).then(few_cells(lent, k))
+    if no_width(k) {
+        return Outcome::Refused(Refusal::InputWidth);
+    }
+    if no_width(m) {
+        return Outcome::Refused(Refusal::OutputWidth);
+    }
+    few_cells(lent, k)
 }

@@ -5,7 +5,7 @@ use mathlib.Core.List.{List, [], _∷_, _++_}
 use mathlib.Core.Path.{_≡_, refl, sym}
 use lib.Dec.{leb}
 use Rattle.units.specs.Refusals.{Back, back, Test, answer}
-use Rattle.units.proofs.Laws.Tests.{Passed}
+use Rattle.units.proofs.Laws.Tests.{Passed, rest-answers}
 use Rattle.entry.specs.Wide.{anyWide, firstWide, wideAmong}
 use Rattle.survey.specs.Finding.{Found, fresh, entryFound, larger, found}
 use Rattle.survey.specs.Survey.{Report, refused, surveyed, surveyAfter}
@@ -29,6 +29,5 @@ wide-field k m n f fs old e = simp e
 
 -- tests that pass leave the survey as it is
 pub after-passed : (tests : List Test) (k m n : ℕ) (fields : List ℕ) → Passed tests → surveyAfter [] k m n fields ≡ surveyAfter tests k m n fields
-unfolding answer
-after-passed [] k m n fields p = refl
-after-passed (t ∷ tests) k m n fields p = rw (p .0) (after-passed tests k m n fields (p .1))
+after-passed tests k m n fields p =
+    rest-answers refused (surveyed (found k m n fields fresh)) tests (wideAmong m n fields ∷ []) p

@@ -1,10 +1,10 @@
 -- Where a bank lies. Assumes nothing.
-use Prim.Native.Nat.{ℕ, suc, _+_, _*_, _^_, _≤_, _<_}
+use Prim.Native.Nat.{ℕ, suc, _+_, _-_, _*_, _^_, _≤_, _<_}
 use mathlib.Core.Path.{_≡_}
 use native.Mathlib.Nat.{mul-le-mul-right}
 use native.Mathlib.Omega.{arith}
 use borrow.Author.Tests.{leb-false, ltb-false}
-use lib.Pow.{pow-mono}
+use lib.Pow.{pow-mono, pow-pos}
 use Rattle.units.specs.Refusals.{widthTests}
 use Rattle.units.proofs.Laws.Powers.{power-splits}
 use Rattle.units.proofs.Laws.Tests.{Passed}
@@ -29,7 +29,7 @@ bank-within k h b l p = omega (arith, power-splits l, mul-le-mul-right (bankSize
 
 -- the ends of a bank of a lent table
 pub record Ends (k first end lent : ℕ) : Type 0 where
-  pub ordered : first ≤ end
+  pub some : first < end
   pub in-table : end ≤ 2 ^ k
   pub lent-all : 2 ^ k ≤ lent
   pub small : 2 ^ k ≤ 2 ^ 15
@@ -39,7 +39,7 @@ pub bank-ends : {k h b lent first end : ℕ} → k ≤ 15 → Placed k h b lent
     → Ends k first end lent
 bank-ends {k} {h} {b} narrow placed at =
     record {
-      ordered = omega (arith, at .0, at .1);
+      some = omega (arith, at .0, at .1, pow-pos (k - h));
       in-table = omega (arith, at .1, bank-within k h b (placed .low) (placed .number));
       lent-all = placed .lent-all;
       small = pow-mono narrow;

@@ -51,6 +51,13 @@ pub passed-also : (ts rest : List Test) → Passed ts → Passed rest → Passed
 passed-also [] rest p q = q
 passed-also (t ∷ ts) rest p q = (p .0, passed-also ts rest (p .1) q)
 
+-- tests that pass leave the answer to those after them
+pub rest-answers : {A : Type 0} (refuse : Back → A) (done : A) (ts rest : List Test) → Passed ts
+    → answer refuse done rest ≡ answer refuse done (ts ++ rest)
+unfolding answer
+rest-answers refuse done [] rest p = refl
+rest-answers refuse done (t ∷ ts) rest p = rw (p .0) (rest-answers refuse done ts rest (p .1))
+
 -- where every test passes the call is done
 pub done-by : {A : Type 0} (refuse : Back → A) (done : A) (ts : List Test) → Passed ts → done ≡ answer refuse done ts
 unfolding answer

@@ -1,39 +1,24 @@
--- `entry::best_field` meets its contract: the rule's value is from 2^m to the cap, which is below 2^16. Assumes nothing.
-use native.Mathlib.Omega.{arith}
+-- `entry::best_field` meets its contract. Assumes nothing.
+use mathlib.Core.Path.{_∙_}
+use Rattle.entry.proofs.Laws.Quotient.{quotient-has-next, quotient-moves-on, quotient-is-field}
 use borrow.Author.Needs.{needs}
-use Rattle.entry.proofs.Laws.Bounds.{cap-bound}
-use Rattle.entry.proofs.Laws.Table.{rule-in-range}
 use Rattle.entry.proofs.choice.best_field.Statement.{statement}
 use Rattle.entry.proofs.choice.best_field.Tie as tie
 
-best-requires : tie.Need-best-requires
-best-requires c κs = search needs
+quotient-before-requires : tie.Need-quotient-before-requires
+quotient-before-requires c κs = search needs
 
-cast-result : tie.Need-cast-result
-cast-result c = search needs
+next-requires : tie.Need-next-requires
+next-requires c κs = quotient-has-next (c .before .pre) (c .quotient-before .ensures)
 
-power-requires : tie.Need-power-requires
-power-requires c κs = search needs
-
-sub-result : tie.Need-sub-result
-sub-result c =
-    let start = c .before .before .before in
-    omega
-    (arith, c .power .ensures, c .before .before .best .ensures, rule-in-range (start .args .k) (start .args .m) (start .pre .interval) .0)
-
-cast-result-2 : tie.Need-cast-result-2
-cast-result-2 c =
-    let start = c .before .before .before in
-    omega (
-      arith,
-      c .before .before .best .ensures,
-      rule-in-range (start .args .k) (start .args .m) (start .pre .interval) .1,
-      cap-bound (start .pre .narrow-out),
-    )
+field-requires : tie.Need-field-requires
+field-requires c κs = search needs
 
 returns : tie.Need-returns
-returns c = search needs
+returns c =
+    let next = c .before .next .ensures in
+    c .field .ensures ∙ quotient-is-field (quotient-moves-on (c .before .before .quotient-before .ensures) (next .0) (next .1))
 
 pub best-field-spec : {M : Type 1} → statement M
 best-field-spec =
-    tie.close (tie.spec best-requires cast-result power-requires sub-result cast-result-2 returns)
+    tie.close (tie.spec quotient-before-requires next-requires field-requires returns)

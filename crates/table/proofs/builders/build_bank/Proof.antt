@@ -65,8 +65,10 @@ part-fill-end c = omega (arith, ends c)
 
 fill-requires : tie.Need-fill-requires
 fill-requires c κs =
-    let narrows = narrow (c .before .before) in
-    (narrows .0, (narrows .1, simp (length-take, length-drop) (omega (arith, ends (c .before)))))
+    let narrows = narrow (c .before .before) in (
+      record { narrow-in = narrows .0; narrow-out = narrows .1; interval = omega (arith, ends (c .before)) },
+      simp (length-take, length-drop) (omega (arith, ends (c .before))),
+    )
 
 returns : tie.Need-returns
 returns c =

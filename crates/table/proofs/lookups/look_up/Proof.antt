@@ -9,6 +9,7 @@ use lib.ListN.{length, getD}
 use lib.Pow.{pow-mono}
 use Rattle.units.specs.Refusals.{backOf, tooWide}
 use Rattle.units.proofs.Laws.Tests.{Passed, passed, passed-also, done-by, refused-by, refused-after, refusal-numbered, not-outside}
+use Rattle.entry.proofs.Laws.Stored.{stored-too-wide, stored-entry}
 use Rattle.table.specs.Lookup.{refused, found, divisorTests, lookupIn}
 use Rattle.table.proofs.Laws.Lookup.{index-below}
 use Rattle.table.proofs.lookups.look_up.Statement.{statement}
@@ -57,46 +58,51 @@ below c =
 cast-t12 : tie.Need-cast-t12
 cast-t12 c = omega (arith, below c)
 
-mul-f : tie.Need-mul-f
-mul-f c = omega (arith, below c)
+mul-read-field : tie.Need-mul-read-field
+mul-read-field c = omega (arith, below c)
 
-shared-slice-read-f : tie.Need-shared-slice-read-f
-shared-slice-read-f c = below (c .before) .0
+shared-slice-read-read-field : tie.Need-shared-slice-read-read-field
+shared-slice-read-read-field c = below (c .before) .0
 
-cast-reaches : tie.Need-cast-reaches
-cast-reaches c = omega (arith, c .shared-slice-known2 .given (c .before .index-of .result))
+read-field-requires : tie.Need-read-field-requires
+read-field-requires c κs = not-outside _ _ _ (good (c .before .before) .1 .0) .1
 
-reaches-requires : tie.Need-reaches-requires
-reaches-requires c κs = search needs
+enum-told-2 : tie.Need-enum-told-2
+enum-told-2 c = search needs
+
+enum-known-j : tie.Need-enum-known-j
+enum-known-j c = search needs
 
 returns : tie.Need-returns
 returns c =
-    let args = c .before .before .before .before .before .before .before .before .args in
-    let index = c .before .before .before .index-of in
-    let f = getD (args .table .now) (index .result) 0 in
-    refused-after refused _ (divisorTests _ _ _ _) (tooWide (args .m) (index .result) f) [] (good (c .before .before .before .before))
-    (sym (c .before .reaches .ensures) ∙ c .if1 .taken)
-    ∙ ap (λ (n : ℕ). lookupIn (args .k) (args .m) (args .x) (length (args .table .now)) n (getD (args .table .now) n 0)) (index .ensures)
-
-entry-of-requires : tie.Need-entry-of-requires
-entry-of-requires c κs = not-outside _ _ _ (good (c .before .before .before .before) .1 .0) .1
-
-returns-2 : tie.Need-returns-2
-returns-2 c =
     refused-by refused _ (divisorTests _ _ _ _) _
     (sym (ap backOf (c .before .r .given .1)) ∙ c .before .before .before .findable .ensures)
     (refusal-numbered (c .before .r .given .0 .0))
 
+returns-2 : tie.Need-returns-2
+returns-2 c =
+    let field = c .before .before in
+    let index = field .before .before in
+    let args = index .before .before .before .before .before .args in
+    let n = index .index-of .result in
+    let f = getD (args .table .now) n 0 in
+    refused-after refused _ (divisorTests _ _ _ _) (tooWide (args .m) n f) [] (good (index .before))
+    (stored-too-wide _ _ (sym (c .enum-told2 .given .1) ∙ field .read-field .ensures))
+    ∙ ap (λ (n : ℕ). lookupIn (args .k) (args .m) (args .x) (length (args .table .now)) n (getD (args .table .now) n 0)) (index .index-of .ensures)
+
 returns-3 : tie.Need-returns-3
 returns-3 c =
-    let args = c .before .before .before .before .before .before .before .before .before .args in
-    let index = c .before .before .before .before .index-of in
-    let f = getD (args .table .now) (index .result) 0 in
+    let field = c .before .before .before in
+    let index = field .before .before in
+    let args = index .before .before .before .before .before .args in
+    let n = index .index-of .result in
+    let f = getD (args .table .now) n 0 in
     let tests = divisorTests (args .k) (args .m) (args .x) (length (args .table .now)) in
-    ap (λ (j : ℕ). found (index .result) j) (c .entry-of .ensures)
-    ∙ done-by refused _ (tests ++ (tooWide (args .m) (index .result) f ∷ []))
-    (passed-also tests (tooWide (args .m) (index .result) f ∷ []) (good (c .before .before .before .before .before)) (sym (c .before .before .reaches .ensures) ∙ c .before .if1 .left, tt))
-    ∙ ap (λ (n : ℕ). lookupIn (args .k) (args .m) (args .x) (length (args .table .now)) n (getD (args .table .now) n 0)) (index .ensures)
+    let entry = stored-entry _ (sym (c .before .j .given .1) ∙ field .read-field .ensures) in
+    ap (found n) (entry .1)
+    ∙ done-by refused _ (tests ++ (tooWide (args .m) n f ∷ []))
+    (passed-also tests (tooWide (args .m) n f ∷ []) (good (index .before)) (entry .0, tt))
+    ∙ ap (λ (n : ℕ). lookupIn (args .k) (args .m) (args .x) (length (args .table .now)) n (getD (args .table .now) n 0)) (index .index-of .ensures)
 
 pub look-up-spec : {M : Type 1} → statement M
 look-up-spec =
@@ -107,11 +113,11 @@ look-up-spec =
     enum-told
     index-of-requires
     cast-t12
-    mul-f
-    shared-slice-read-f
-    cast-reaches
-    reaches-requires
+    mul-read-field
+    shared-slice-read-read-field
+    read-field-requires
+    enum-told-2
+    enum-known-j
     returns
-    entry-of-requires
     returns-2
     returns-3)

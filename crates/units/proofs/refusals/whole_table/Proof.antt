@@ -1,28 +1,37 @@
 -- `units::whole_table` meets its contract: the tests of the widths, and after them that of the cells. Assumes nothing.
-use Prim.Native.Nat.{_^_}
-use mathlib.Core.List.{[], _∷_}
-use native.Mathlib.Omega.{arith}
+use mathlib.Core.Path.{sym, _∙_}
 use borrow.Author.Needs.{needs}
-use Rattle.units.specs.Refusals.{widthTests, fewCells}
-use Rattle.units.proofs.Laws.Tests.{then-is}
+use Rattle.units.specs.Refusals.{answer}
 use Rattle.units.proofs.refusals.whole_table.Statement.{statement}
 use Rattle.units.proofs.refusals.whole_table.Tie as tie
 
-widths-requires : tie.Need-widths-requires
-widths-requires c κs = search needs
+no-width-requires : tie.Need-no-width-requires
+no-width-requires c κs = search needs
+
+returns : tie.Need-returns
+unfolding answer
+returns c = rw (sym (c .before .no-width .ensures) ∙ c .if1 .taken)
+
+no-width-requires-2 : tie.Need-no-width-requires-2
+no-width-requires-2 c κs = search needs
+
+returns-2 : tie.Need-returns-2
+unfolding answer
+returns-2 c =
+    rw (sym (c .before .before .before .no-width .ensures) ∙ c .before .before .if1 .left, sym (c .before .no-width2 .ensures) ∙ c .if2 .taken)
 
 few-cells-requires : tie.Need-few-cells-requires
 few-cells-requires c κs = search needs
 
-then-requires : tie.Need-then-requires
-then-requires c κs = search needs
-
-returns : tie.Need-returns
-returns c =
-    let args = c .before .before .before .args in
-    then-is (widthTests (args .k) (args .m)) (fewCells (args .lent) (2 ^ args .k) ∷ []) (omega arith) (c .then .ensures)
-    (c .before .before .widths .ensures)
-    (c .before .few-cells .ensures)
+returns-3 : tie.Need-returns-3
+unfolding answer
+returns-3 c =
+    let second = c .before .before in
+    let first = second .before .before in
+    rw (sym (first .no-width .ensures) ∙ second .before .if1 .left, sym (second .no-width2 .ensures) ∙ c .before .if2 .left)
+    (c .few-cells .ensures)
 
 pub whole-table-spec : {M : Type 1} → statement M
-whole-table-spec = tie.close (tie.spec widths-requires few-cells-requires then-requires returns)
+whole-table-spec =
+    tie.close
+    (tie.spec no-width-requires returns no-width-requires-2 returns-2 few-cells-requires returns-3)
