@@ -1,0 +1,93 @@
+// Calls the proved calls and the plain ones, one after the other, with a call of `mark` before each.
+// bench/run counts the instructions between two marks. Standard output names what stands between
+// them: the call, the widths, by how many the count is divided, and whose it is.
+#include <stdio.h>
+#include <stdlib.h>
+#include <string.h>
+
+#include "plain.h"
+
+// What libbench_calls.a has. A slice comes as a pointer and a length.
+uint32_t quirelinnet_build(uint32_t k, uint32_t m, uint16_t *table, size_t lent);
+void quirelinnet_check(uint32_t k, uint32_t m, const uint16_t *table, size_t lent, uint64_t out[5]);
+void quirelinnet_survey(uint32_t k, uint32_t m, const uint16_t *table, size_t lent, uint64_t out[4]);
+void quirelinnet_look_up(uint32_t k, uint32_t m, uint32_t x, const uint16_t *table, size_t lent, uint64_t out[3]);
+
+static uint32_t no_build(uint32_t k, uint32_t m, uint16_t *table, size_t lent) {
+    (void)k, (void)m, (void)table, (void)lent;
+    return 0;
+}
+
+static void no_read(uint32_t k, uint32_t m, const uint16_t *table, size_t lent, uint64_t *out) {
+    (void)k, (void)m, (void)table, (void)lent, (void)out;
+}
+
+static void no_look_up(uint32_t k, uint32_t m, uint32_t x, const uint16_t *table, size_t lent, uint64_t *out) {
+    (void)k, (void)m, (void)x, (void)table, (void)lent, (void)out;
+}
+
+// Each kind of call as it is made to nothing, to the proved code and to the plain code.
+enum { NOTHING, PROVED, PLAIN, WHO };
+static const char *const who[WHO] = {"nothing", "proved", "plain"};
+static uint32_t (*volatile build[WHO])(uint32_t, uint32_t, uint16_t *, size_t) = {no_build, quirelinnet_build, plain_build};
+static void (*volatile check[WHO])(uint32_t, uint32_t, const uint16_t *, size_t, uint64_t *) = {no_read, quirelinnet_check, plain_check};
+static void (*volatile survey[WHO])(uint32_t, uint32_t, const uint16_t *, size_t, uint64_t *) = {no_read, quirelinnet_survey, plain_survey};
+static void (*volatile look_up[WHO])(uint32_t, uint32_t, uint32_t, const uint16_t *, size_t, uint64_t *) = {no_look_up, quirelinnet_look_up, plain_look_up};
+
+__attribute__((noinline)) void mark(void) {
+    __asm__ volatile("");
+}
+
+enum { CELLS = 32768 };
+static uint16_t table[WHO][CELLS];
+static uint64_t answer[WHO][5];
+
+static void same(const char *call, const void *a, const void *b, size_t size) {
+    if (memcmp(a, b, size) == 0) return;
+    fprintf(stderr, "bench: %s: the proved answer and the plain one differ\n", call);
+    exit(1);
+}
+
+static void widths(uint32_t k, uint32_t m) {
+    for (int w = 0; w < WHO; w++) {
+        printf("build %u %u %u entry %s\n", k, m, 1u << k, who[w]);
+        mark();
+        build[w](k, m, table[w], CELLS);
+        mark();
+    }
+    same("build", table[PROVED], table[PLAIN], sizeof table[PLAIN]);
+    for (int w = 0; w < WHO; w++) {
+        printf("check %u %u %u entry %s\n", k, m, 1u << k, who[w]);
+        mark();
+        check[w](k, m, table[PLAIN], CELLS, answer[w]);
+        mark();
+    }
+    same("check", answer[PROVED], answer[PLAIN], 5 * sizeof(uint64_t));
+    for (int w = 0; w < WHO; w++) {
+        printf("survey %u %u %u entry %s\n", k, m, 1u << k, who[w]);
+        mark();
+        survey[w](k, m, table[PLAIN], CELLS, answer[w]);
+        mark();
+    }
+    same("survey", answer[PROVED], answer[PLAIN], 4 * sizeof(uint64_t));
+}
+
+// Every divisor once.
+static void look_ups(uint32_t k, uint32_t m) {
+    for (int w = 0; w < WHO; w++) {
+        printf("look_up %u %u 32768 call %s\n", k, m, who[w]);
+        mark();
+        for (uint32_t x = 32768; x < 65536; x++) look_up[w](k, m, x, table[PLAIN], CELLS, answer[w]);
+        mark();
+    }
+    same("look_up", answer[PROVED], answer[PLAIN], 3 * sizeof(uint64_t));
+}
+
+int main(void) {
+    widths(5, 5);
+    widths(12, 3);
+    widths(10, 12);
+    widths(15, 15);
+    look_ups(15, 15);
+    return 0;
+}

@@ -1,0 +1,99 @@
+// Document 01's calls as a good engineer would write them at first: each does what its sentence says,
+// with the same tests in the same order and the same answers as the proved ones.
+#include "plain.h"
+
+static uint32_t refusal(uint32_t k, uint32_t m, size_t lent) {
+    if (k < 1 || k > 15) return 1;
+    if (m < 1 || m > 15) return 2;
+    if (lent < (size_t)1 << k) return 3;
+    return 0;
+}
+
+static uint64_t unit_of(uint32_t k, uint32_t m) {
+    return (uint64_t)1 << (k + m + 1);
+}
+
+// The whole number nearest to 2^(k+m+2)/(2i+1), at most 2^(m+1) - 1.
+static uint64_t best(uint32_t m, uint64_t unit, uint64_t i) {
+    uint64_t most = ((uint64_t)2 << m) - 1;
+    uint64_t j = (2 * unit + i) / (2 * i + 1);
+    return j < most ? j : most;
+}
+
+uint32_t plain_build(uint32_t k, uint32_t m, uint16_t *table, size_t lent) {
+    uint32_t number = refusal(k, m, lent);
+    if (number != 0) return number;
+    uint64_t unit = unit_of(k, m);
+    uint32_t size = 1u << k;
+    for (uint32_t n = 0; n < size; n++) {
+        table[n] = best(m, unit, size + n) - (1u << m);
+    }
+    return 0;
+}
+
+static void check_answer(uint64_t out[5], uint64_t number, uint64_t yes, uint64_t n, uint64_t worst, uint64_t least) {
+    out[0] = number;
+    out[1] = yes;
+    out[2] = n;
+    out[3] = worst;
+    out[4] = least;
+}
+
+void plain_check(uint32_t k, uint32_t m, const uint16_t *table, size_t lent, uint64_t out[5]) {
+    uint32_t number = refusal(k, m, lent);
+    if (number != 0) return check_answer(out, number, 0, 0, 0, 0);
+    uint64_t unit = unit_of(k, m);
+    uint32_t size = 1u << k;
+    for (uint32_t n = 0; n < size; n++) {
+        if (table[n] >= 1u << m) return check_answer(out, 5, 0, n, 0, 0);
+    }
+    for (uint32_t n = 0; n < size; n++) {
+        uint64_t i = size + n;
+        uint64_t worst = plain_errors_of(unit, i, (1u << m) + table[n]).worst;
+        uint64_t least = plain_errors_of(unit, i, best(m, unit, i)).worst;
+        if (worst != least) return check_answer(out, 0, 0, n, worst, least);
+    }
+    check_answer(out, 0, 1, 0, 0, 0);
+}
+
+static void survey_answer(uint64_t out[4], uint64_t number, uint64_t worst, uint64_t n, uint64_t side) {
+    out[0] = number;
+    out[1] = worst;
+    out[2] = n;
+    out[3] = side;
+}
+
+void plain_survey(uint32_t k, uint32_t m, const uint16_t *table, size_t lent, uint64_t out[4]) {
+    uint32_t number = refusal(k, m, lent);
+    if (number != 0) return survey_answer(out, number, 0, 0, 0);
+    uint64_t unit = unit_of(k, m);
+    uint32_t size = 1u << k;
+    uint64_t worst = 0;
+    uint32_t worst_n = 0, side = 0;
+    for (uint32_t n = 0; n < size; n++) {
+        if (table[n] >= 1u << m) return survey_answer(out, 5, 0, n, 0);
+        struct plain_errors e = plain_errors_of(unit, size + n, (1u << m) + table[n]);
+        if (e.worst > worst) {
+            worst = e.worst;
+            worst_n = n;
+            side = e.side;
+        }
+    }
+    survey_answer(out, 0, worst, worst_n, side);
+}
+
+static void look_up_answer(uint64_t out[3], uint64_t number, uint64_t n, uint64_t j) {
+    out[0] = number;
+    out[1] = n;
+    out[2] = j;
+}
+
+void plain_look_up(uint32_t k, uint32_t m, uint32_t x, const uint16_t *table, size_t lent, uint64_t out[3]) {
+    uint32_t number = refusal(k, m, lent);
+    if (number != 0) return look_up_answer(out, number, 0, 0);
+    if (x < 32768 || x > 65535) return look_up_answer(out, 6, 0, 0);
+    uint32_t n = (x >> (15 - k)) - (1u << k);
+    uint32_t f = table[n];
+    if (f >= 1u << m) return look_up_answer(out, 5, n, 0);
+    look_up_answer(out, 0, n, (1u << m) + f);
+}

@@ -1,0 +1,16 @@
+-- The numbers of each answer, in the order in which a C program finds them. Assumes nothing.
+use Prim.Native.Nat.{ℕ}
+use mathlib.Core.Bool.{cond}
+use mathlib.Core.List.{List, [], _∷_}
+use Rattle.verdict.specs.Check
+use Rattle.survey.specs.Survey
+use Rattle.table.specs.Lookup
+
+abbrev pub checkNumbers : Check.Report → List ℕ
+checkNumbers r = r .number ∷ cond (r .yes) 1 0 ∷ r .n ∷ r .worst ∷ r .least ∷ []
+
+abbrev pub surveyNumbers : Survey.Report → List ℕ
+surveyNumbers r = r .number ∷ r .finding .worst ∷ r .finding .n ∷ r .finding .side ∷ []
+
+abbrev pub lookupNumbers : Lookup.Report → List ℕ
+lookupNumbers r = r .number ∷ r .n ∷ r .j ∷ []

@@ -1,0 +1,80 @@
+// The calls that `bench/` counts, as C calls them: numbers and lent cells in, document 01's numbers
+// out through `out`.
+ghost use mathlib.Core.Path.{_≡_};
+ghost use lib.ListN.{length};
+ghost use Rattle.units.specs.Refusals.{backOf, refusal, tableTests};
+ghost use Rattle.table.specs.Build.{built};
+ghost use Rattle.table.specs.Lookup.{lookupReport};
+ghost use Rattle.survey.specs.Survey.{surveyReport};
+ghost use Rattle.verdict.specs.Check.{checkReport};
+ghost use Rattle.bench_calls.specs.Numbers.{checkNumbers, surveyNumbers, lookupNumbers};
+use recip::CheckAnswer;
+use recip::LookupAnswer;
+use recip::SurveyAnswer;
+use recip::build;
+use recip::check_table;
+use recip::look_up;
+use recip::survey_table;
+
+#[no_mangle]
+pub extern "C" fn quirelinnet_build(k: u32, m: u32, table: &mut [u16]) -> u32
+    ensures answer { λ r. ⌜ r ≡ refusal (tableTests k m (length (now (table .entry)))) .number ⌝ }
+    ensures cells { λ _. ⌜ now (table .exit) ≡ built k m (now (table .entry)) ⌝ }
+{
+    build(k, m, table).number()
+}
+
+#[no_mangle]
+pub extern "C" fn quirelinnet_check(k: u32, m: u32, table: &[u16], out: &mut [u64; 5])
+    ensures { λ _. ⌜ now (out .exit) ≡ checkNumbers (checkReport k m (now (table .entry))) ⌝ }
+{
+    match check_table(k, m, table) {
+        CheckAnswer::Yes => {
+            *out = [0, 1, 0, 0, 0];
+        }
+        CheckAnswer::NotBest { n, worst, least } => {
+            *out = [0, 0, n.0 as u64, worst.0, least.0];
+        }
+        CheckAnswer::TooWide(n) => {
+            *out = [5, 0, n.0 as u64, 0, 0];
+        }
+        CheckAnswer::Refused(r) => {
+            *out = [r.number() as u64, 0, 0, 0, 0];
+        }
+    }
+}
+
+#[no_mangle]
+pub extern "C" fn quirelinnet_survey(k: u32, m: u32, table: &[u16], out: &mut [u64; 4])
+    ensures { λ _. ⌜ now (out .exit) ≡ surveyNumbers (surveyReport k m (now (table .entry))) ⌝ }
+{
+    match survey_table(k, m, table) {
+        SurveyAnswer::Surveyed(f) => {
+            let side = f.side;
+            *out = [0, f.worst.0, f.n.0 as u64, side.number() as u64];
+        }
+        SurveyAnswer::TooWide(n) => {
+            *out = [5, 0, n.0 as u64, 0];
+        }
+        SurveyAnswer::Refused(r) => {
+            *out = [r.number() as u64, 0, 0, 0];
+        }
+    }
+}
+
+#[no_mangle]
+pub extern "C" fn quirelinnet_look_up(k: u32, m: u32, x: u32, table: &[u16], out: &mut [u64; 3])
+    ensures { λ _. ⌜ now (out .exit) ≡ lookupNumbers (lookupReport k m x (now (table .entry))) ⌝ }
+{
+    match look_up(k, m, x, table) {
+        LookupAnswer::Found { n, j } => {
+            *out = [0, n.0 as u64, j.0 as u64];
+        }
+        LookupAnswer::TooWide(n) => {
+            *out = [5, n.0 as u64, 0];
+        }
+        LookupAnswer::Refused(r) => {
+            *out = [r.number() as u64, 0, 0];
+        }
+    }
+}
