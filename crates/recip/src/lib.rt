@@ -1,7 +1,6 @@
 // Reciprocal tables, k bits of a divisor in and m bits of its reciprocal out: every call and type of
 // document 01. Every call takes any numbers and any cells, ends, and answers a refusal number where
-// it cannot do what was asked; a refused call writes nothing. (`Tally::add`, which `Tally::take`
-// and the surveys are made of, is no call of document 01 and has a `requires`.)
+// it cannot do what was asked; a refused call writes nothing.
 
 // The kinds of numbers: n of an interval, j of an entry, an error with its sign, and its size; the
 // side of an entry at which its error is larger; and the refusal numbers.

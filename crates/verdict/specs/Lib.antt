@@ -1,1 +1,2 @@
 pub mod Check
+pub mod Largest

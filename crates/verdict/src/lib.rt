@@ -1,10 +1,11 @@
 // The call "Check" of document 01: whether every entry of a table is best.
 ghost use mathlib.Core.Path.{_≡_};
-ghost use mathlib.Core.Bool.{false, cond};
-ghost use Prim.Native.Nat.{_≤_, _^_};
+ghost use mathlib.Core.Bool.{true, false};
+ghost use Prim.Native.Nat.{_≤_, _^_, max};
 ghost use lib.ListN.{length};
 ghost use Rattle.entry.specs.Wide.{anyWide, firstWide};
 ghost use Rattle.verdict.specs.Check.{reported, firstNotBest, checkReport};
+ghost use Rattle.verdict.specs.Largest.{largestOf};
 use entry::entry_of;
 use entry::is_best;
 use entry::least;
@@ -29,25 +30,35 @@ pub enum CheckAnswer {
     Refused(Refusal),
 }
 
-// Where a search over fields ends.
-enum Wide {
-    At(Interval),
-    Nowhere,
+fn larger(a: u16, b: u16) -> u16
+    ensures { λ r. ⌜ r ≡ max a b ⌝ }
+{
+    if a < b { b } else { a }
 }
 
-// 5 is looked for in the whole table first.
-fn first_wide(m: u32, cells: &[u16]) -> Wide
-    requires { ⌜ length (now cells) ≤ 2 ^ 15 ⌝ }
-    ensures { λ r. ⌜ r ≡ cond (anyWide m (now (cells .entry))) (Wide.At (record { 0 = firstWide m 0 (now (cells .entry)) })) Wide.Nowhere ⌝ }
+// The largest of some fields, or 0 of none.
+fn largest(cells: &[u16]) -> u16
+    ensures { λ r. ⌜ r ≡ largestOf (now (cells .entry)) ⌝ }
 {
+    let mut most: u16 = 0;
     let mut at: usize = 0;
     while at < cells.len() {
-        if reaches(m, cells[at] as u64) {
-            return Wide::At(Interval(at as u32));
-        }
+        most = larger(most, cells[at]);
         at += 1;
     }
-    Wide::Nowhere
+    most
+}
+
+// The smallest n whose field is over-wide, where one is.
+fn first_wide(m: u32, cells: &[u16]) -> Interval
+    requires { ⌜ (length (now cells) ≤ 2 ^ 15) × (anyWide m (now cells) ≡ true) ⌝ }
+    ensures { λ r. ⌜ r .0 ≡ firstWide m 0 (now (cells .entry)) ⌝ }
+{
+    let mut at: usize = 0;
+    while !reaches(m, cells[at] as u64) {
+        at += 1;
+    }
+    Interval(at as u32)
 }
 
 // "The scan ends there and yields that finding": a loop whose break gives the first entry that isn't
@@ -85,10 +96,11 @@ pub fn check(k: u32, m: u32, table: &[u16]) -> CheckAnswer
         Outcome::Done => {
             let size = power(k) as usize;
             let cells = &table[0..size];
-            match first_wide(m, cells) {
-                Wide::At(n) => CheckAnswer::TooWide(n),
-                Wide::Nowhere => scan(k, m, cells),
+            // 5 is looked for in the whole table first.
+            if reaches(m, largest(cells) as u64) {
+                return CheckAnswer::TooWide(first_wide(m, cells));
             }
+            scan(k, m, cells)
         }
     }
 }

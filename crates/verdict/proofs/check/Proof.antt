@@ -1,31 +1,21 @@
 -- `verdict::check` meets its contract: its tests are those of `checkReport`, in their order, and where they pass it scans the table,
 -- which is the first 2^k cells. Assumes nothing.
 use Prim.Native.Nat.{ℕ, _-_, _^_, _≤_}
-use mathlib.Core.Bool.{Bool, true, false, cond}
 use mathlib.Core.List.{[], _∷_}
-use mathlib.Core.Path.{_≡_, refl, sym, ap, _∙_}
+use mathlib.Core.Path.{_≡_, sym, ap, _∙_}
 use native.Mathlib.Omega.{arith}
 use borrow.Author.Needs.{needs}
 use borrow.Author.Tests.{ltb-false}
+use lib.Dec.{leb}
 use lib.ListN.{length, take, length-take}
 use lib.Pow.{pow-mono}
-use Rattle.units.specs.declared.kinds.Interval.{Interval}
 use Rattle.units.specs.Refusals.{back, backOf, tableTests}
 use Rattle.units.proofs.Laws.Tests.{Passed, passed, passed-also, done-by, refused-by, refused-after, refusal-numbered, not-outside}
 use Rattle.entry.specs.Wide.{anyWide, wideAmong}
 use Rattle.verdict.specs.Check.{refused, checkTests}
-use Rattle.verdict.specs.declared.Wide.the-variants.{At, Nowhere}
+use Rattle.verdict.proofs.Laws.Wide.{wide-by-largest}
 use Rattle.verdict.proofs.check.Statement.{statement}
 use Rattle.verdict.proofs.check.Tie as tie
-
--- what the end of a search says of the fields
-found-at : (any : Bool) (first : ℕ) {n : Interval} → At n ≡ cond any (At (record { 0 = first })) Nowhere → (any ≡ true) × (n .0 ≡ first)
-found-at true first e = (refl, cc)
-found-at false first e = absurd (let z : _≡_ {A = ℕ} 0 1 = cc in omega arith)
-
-found-nowhere : (any : Bool) (first : ℕ) → Nowhere ≡ cond any (At (record { 0 = first })) Nowhere → any ≡ false
-found-nowhere true first e = absurd (let z : _≡_ {A = ℕ} 0 1 = cc in omega arith)
-found-nowhere false first e = refl
 
 whole-table-requires : tie.Need-whole-table-requires
 whole-table-requires c κs = search needs
@@ -67,58 +57,65 @@ part-cells-end c =
 size : (c : tie.After-power) → c .power .result - 0 ≡ 2 ^ c .before .before .before .before .before .args .k
 size c = omega (arith, c .power .ensures)
 
-first-wide-requires : tie.Need-first-wide-requires
-first-wide-requires c κs = rw (size (c .before), length-take) (omega (arith, pow-mono (narrow (c .before .before) .0)))
+largest-requires : tie.Need-largest-requires
+largest-requires c κs = search needs
 
-enum-known-n : tie.Need-enum-known-n
-enum-known-n c = search needs
+cast-reaches : tie.Need-cast-reaches
+cast-reaches c = search needs
 
-enum-told-2 : tie.Need-enum-told-2
-enum-told-2 c = search needs
+reaches-requires : tie.Need-reaches-requires
+reaches-requires c κs = search needs
 
--- no field of it is over-wide
-no-wide : (c : tie.After-enum-told2)
+-- whether one of its fields is over-wide
+wide : (c : tie.After-reaches)
     → anyWide
-    (c .before .before .before .before .before .before .before .before .before .args .m)
+    (c .before .before .before .before .before .before .before .before .args .m)
     (take
-    (2 ^ c .before .before .before .before .before .before .before .before .before .args .k)
-    (c .before .before .before .before .before .before .before .before .before .args .table .now))
-    ≡ false
-no-wide c =
-    let search-ends = c .before .before .first-wide .ensures in
-    found-nowhere _ _ (sym (c .enum-told2 .given .1) ∙ rw (size (c .before .before .before .before)) at search-ends)
+    (2 ^ c .before .before .before .before .before .before .before .before .args .k)
+    (c .before .before .before .before .before .before .before .before .args .table .now))
+    ≡ c .reaches .result
+wide c =
+    let args = c .before .before .before .before .before .before .before .before .args in
+    let most = rw (size (c .before .before .before)) at (c .before .largest .ensures) in
+    wide-by-largest (args .m) (take (2 ^ args .k) (args .table .now)) ∙ sym (c .reaches .ensures ∙ ap (leb (2 ^ args .m)) most)
 
-scan-requires : tie.Need-scan-requires
-scan-requires c κs =
-    let narrows = narrow (c .before .before .before .before .before) in
-    rw (size (c .before .before .before .before))
-    ((narrows .0, (narrows .1, rw length-take (omega arith))), no-wide c)
+first-wide-requires : tie.Need-first-wide-requires
+first-wide-requires c κs =
+    let power = c .before .before .before .before in
+    rw (size power) (rw length-take (omega (arith, pow-mono (narrow (power .before) .0))), wide (c .before) ∙ c .if1 .taken)
 
 returns : tie.Need-returns
 returns c =
+    let reaches = c .before .before in
+    let power = reaches .before .before .before in
+    let start = power .before in
+    let args = start .before .before .before .before .args in
+    let cells = take (2 ^ args .k) (args .table .now) in
+    ap (λ (n : ℕ). refused (back 5 n)) (rw (size power) at (c .first-wide .ensures))
+    ∙ refused-after refused _ (tableTests _ _ _) (wideAmong (args .m) 0 cells) [] (good start) (wide reaches ∙ c .before .if1 .taken)
+
+scan-requires : tie.Need-scan-requires
+scan-requires c κs =
+    let power = c .before .before .before .before in
+    let narrows = narrow (power .before) in
+    rw (size power) ((narrows .0, (narrows .1, rw length-take (omega arith))), wide (c .before) ∙ c .if1 .left)
+
+returns-2 : tie.Need-returns-2
+returns-2 c =
     refused-by refused _ (tableTests _ _ _) _
     (sym (ap backOf (c .before .r .given .1)) ∙ c .before .before .before .whole-table .ensures)
     (refusal-numbered (c .before .r .given .0 .0))
 
-returns-2 : tie.Need-returns-2
-returns-2 c =
-    let wide = c .before .before .before in
-    let start = wide .before .before .before in
-    let args = start .before .before .before .before .args in
-    let cells = take (2 ^ args .k) (args .table .now) in
-    let found = found-at _ _ (sym (c .before .n .given .1) ∙ rw (size (wide .before .before)) at (wide .first-wide .ensures)) in
-    ap (λ (n : ℕ). refused (back 5 n)) (found .1)
-    ∙ refused-after refused _ (tableTests _ _ _) (wideAmong (args .m) 0 cells) [] (good start) (found .0)
-
 returns-3 : tie.Need-returns-3
 returns-3 c =
-    let power = c .before .before .before .before .before in
+    let reaches = c .before .before in
+    let power = reaches .before .before .before in
     let start = power .before in
     let args = start .before .before .before .before .args in
     let cells = args .table .now in
     rw (size power) at (c .scan .ensures)
     ∙ done-by refused _ (checkTests (args .k) (args .m) cells)
-    (passed-also (tableTests (args .k) (args .m) (length cells)) (wideAmong (args .m) 0 (take (2 ^ args .k) cells) ∷ []) (good start) (no-wide (c .before), tt))
+    (passed-also (tableTests (args .k) (args .m) (length cells)) (wideAmong (args .m) 0 (take (2 ^ args .k) cells) ∷ []) (good start) (wide reaches ∙ c .before .if1 .left, tt))
 
 pub check-spec : {M : Type 1} → statement M
 check-spec =
@@ -131,10 +128,11 @@ check-spec =
     sub-cells
     part-cells-start
     part-cells-end
+    largest-requires
+    cast-reaches
+    reaches-requires
     first-wide-requires
-    enum-known-n
-    enum-told-2
-    scan-requires
     returns
+    scan-requires
     returns-2
     returns-3)

@@ -1,64 +1,63 @@
--- `verdict::first_wide` meets its contract. The loop's invariant: the search over the cells from `at` on ends as that over all of them.
--- Assumes nothing.
-use Prim.Native.Nat.{ℕ, _-_, _≤_}
+-- `verdict::first_wide` meets its contract. The loop's invariant: one of the cells from `at` on is over-wide, and the first of them is
+-- the first of all. Assumes nothing.
+use Prim.Native.Nat.{_-_, _<_}
+use mathlib.Core.Bool.{true}
 use mathlib.Core.Path.{_≡_, refl, sym, _∙_}
 use native.Mathlib.Omega.{arith}
 use borrow.Author.Needs.{needs}
-use lib.ListN.{length}
-use Rattle.verdict.specs.declared.Wide.{Wide}
-use Rattle.verdict.specs.declared.Wide.the-variants.{At, Nowhere}
-use Rattle.verdict.proofs.Laws.Wide.{wideFrom, ends-here, goes-on, ends-nowhere}
+use borrow.Author.Tests.{not-true, not-false}
+use lib.ListN.{length, drop}
+use Rattle.entry.specs.Wide.{anyWide, firstWide}
+use Rattle.verdict.proofs.Laws.Wide.{wide-within, wide-here, wide-after}
 use Rattle.verdict.proofs.first_wide.Statement.{statement}
 use Rattle.verdict.proofs.first_wide.Tie as tie
 
-abbrev at-interval : ℕ → Wide
-at-interval n = At (record { 0 = n })
-
 abbrev Inv-loop : tie.InvT-loop
-Inv-loop m cells at₀ at =
-    (at ≤ length cells) × (wideFrom at-interval Nowhere m cells at ≡ wideFrom at-interval Nowhere m cells 0)
+Inv-loop m cells at₀ at = (anyWide m (drop at cells) ≡ true) × (firstWide m at (drop at cells) ≡ firstWide m 0 cells)
 
 abbrev μ-loop : tie.MeasureT-loop
 μ-loop m cells at₀ at = length cells - at
 
 loop-holds : tie.Need-loop-holds Inv-loop μ-loop
-loop-holds c = (search needs, refl)
+loop-holds c = (c .before .pre .1, refl)
+
+-- so there is a cell
+within : (c : tie.At-loop Inv-loop μ-loop) → c .loop .at < length (c .before .before .args .cells .now)
+within c = wide-within (c .before .before .args .m) (c .before .before .args .cells .now) (c .loop .at) (c .loop .inv .0)
 
 mul-reaches : tie.Need-mul-reaches Inv-loop μ-loop
-mul-reaches c = search needs
+mul-reaches c = omega (arith, within c, c .before .before .pre .0)
 
 shared-slice-read-reaches : tie.Need-shared-slice-read-reaches Inv-loop μ-loop
-shared-slice-read-reaches c = search needs
+shared-slice-read-reaches c = within (c .before)
 
 cast-reaches : tie.Need-cast-reaches Inv-loop μ-loop
-cast-reaches c = omega (arith, c .shared-slice-known2 .given (c .before .before .loop .at))
+cast-reaches c = omega (arith, c .shared-slice-known2 .given (c .before .loop .at))
 
 reaches-requires : tie.Need-reaches-requires Inv-loop μ-loop
 reaches-requires c κs = search needs
 
-cast-t10 : tie.Need-cast-t10 Inv-loop μ-loop
-cast-t10 c = search needs
-
-returns : tie.Need-returns Inv-loop μ-loop
-returns c =
-    let place = c .before .before .before .before in
-    sym (ends-here _ _ (place .loop .at) at-interval Nowhere (omega arith) (sym (c .before .reaches .ensures) ∙ c .if1 .taken)) ∙ place .loop .inv .1
-
 add-at : tie.Need-add-at Inv-loop μ-loop
-add-at c = search needs
+add-at c = omega (arith, within (c .before .before .before), c .before .before .before .before .before .pre .0)
 
 loop-less : tie.Need-loop-less Inv-loop μ-loop
-loop-less c = search needs
+loop-less c = omega (arith, within (c .before .before .before))
 
 loop-again : tie.Need-loop-again Inv-loop μ-loop
 loop-again c =
-    let place = c .before .before .before .before in (
-      omega arith,
-      sym (goes-on _ (place .before .before .args .cells .now) (place .loop .at) at-interval Nowhere (omega arith) (sym (c .before .reaches .ensures) ∙ c .if1 .left)) ∙ place .loop .inv .1,
-    )
+    let place = c .before .before .before in
+    let cells = place .before .before .args .cells .now in
+    let after = wide-after _ cells (place .loop .at) (within place) (sym (c .before .reaches .ensures) ∙ not-true _ (c .if1 .taken)) in
+    (after .0 ∙ place .loop .inv .0, after .1 ∙ place .loop .inv .1)
 
-returns-2 : tie.Need-returns-2 Inv-loop μ-loop
-returns-2 c = sym (ends-nowhere _ _ (c .before .loop .at) at-interval Nowhere (omega arith)) ∙ c .before .loop .inv .1
+cast-t10 : tie.Need-cast-t10 Inv-loop μ-loop
+cast-t10 c = omega (arith, within (c .before .before .before), c .before .before .before .before .before .pre .0)
+
+returns : tie.Need-returns Inv-loop μ-loop
+returns c =
+    let place = c .before .before .before in
+    let cells = place .before .before .args .cells .now in
+    sym (wide-here _ cells (place .loop .at) (within place) (sym (c .before .reaches .ensures) ∙ not-false _ (c .if1 .left))) ∙ place .loop .inv .1
 
 pub first-wide-spec : {M : Type 1} → statement M
 first-wide-spec =
@@ -71,9 +70,8 @@ first-wide-spec =
     shared-slice-read-reaches
     cast-reaches
     reaches-requires
-    cast-t10
-    returns
     add-at
     loop-less
     loop-again
-    returns-2)
+    cast-t10
+    returns)

@@ -1,0 +1,63 @@
+-- `verdict::largest` meets its contract. The loop's invariant: the larger of what is found and the largest of the cells from `at` on is
+-- the largest of all. Assumes nothing.
+use Prim.Native.Nat.{_-_, _≤_, max}
+use mathlib.Core.Path.{_≡_}
+use native.Mathlib.Omega.{arith}
+use borrow.Author.Needs.{needs}
+use lib.ListN.{length, drop}
+use Rattle.verdict.specs.Largest.{largestOf}
+use Rattle.verdict.proofs.Laws.Wide.{largest-past, largest-after}
+use Rattle.verdict.proofs.largest.Statement.{statement}
+use Rattle.verdict.proofs.largest.Tie as tie
+
+abbrev Inv-loop : tie.InvT-loop
+Inv-loop cells most₀ at₀ most at = (at ≤ length cells) × (max most (largestOf (drop at cells)) ≡ largestOf cells)
+
+abbrev μ-loop : tie.MeasureT-loop
+μ-loop cells most₀ at₀ most at = length cells - at
+
+loop-holds : tie.Need-loop-holds Inv-loop μ-loop
+loop-holds c = (search needs, omega arith)
+
+mul-larger : tie.Need-mul-larger Inv-loop μ-loop
+mul-larger c = search needs
+
+shared-slice-read-larger : tie.Need-shared-slice-read-larger Inv-loop μ-loop
+shared-slice-read-larger c = search needs
+
+larger-requires : tie.Need-larger-requires Inv-loop μ-loop
+larger-requires c κs = search needs
+
+add-at : tie.Need-add-at Inv-loop μ-loop
+add-at c = search needs
+
+loop-less : tie.Need-loop-less Inv-loop μ-loop
+loop-less c = search needs
+
+loop-again : tie.Need-loop-again Inv-loop μ-loop
+loop-again c =
+    let loop = c .before .before .before .loop in
+    let cells = c .before .before .before .before .before .args .cells .now in
+    (omega arith, omega (arith, c .larger .ensures, loop .inv .1, largest-after cells (loop .at) (omega arith)))
+
+returns : tie.Need-returns Inv-loop μ-loop
+returns c =
+    let loop = c .before .loop in
+    let cells = c .before .before .before .args .cells .now in
+    let none : largestOf (drop (loop .at) cells) ≡ 0 = largest-past cells (loop .at) (omega arith) in
+    omega (arith, loop .inv .1)
+
+pub largest-spec : {M : Type 1} → statement M
+largest-spec =
+    tie.close
+    (tie.spec
+    Inv-loop
+    μ-loop
+    loop-holds
+    mul-larger
+    shared-slice-read-larger
+    larger-requires
+    add-at
+    loop-less
+    loop-again
+    returns)
