@@ -1,7 +1,7 @@
 # Reads the trace that `qemu-x86_64 -d in_asm,exec,nochain` writes: each block of instructions in full
 # where it is translated, and a line each time it is run. Prints how many instructions were run, how
-# many of them multiply and how many divide: of the whole program, or, if it calls `mark`, a line for
-# each stretch from one call of that to the next.
+# many of them multiply whole numbers and how many divide them: of the whole program, or, if it calls
+# `mark`, a line for each two calls of that: what was run between them.
 
 # IN: main
 /^IN:/ {
@@ -10,17 +10,18 @@
 }
 
 # 0x00401600:  31 ed                    xorl     %ebp, %ebp
-# A line that goes on with the bytes of a long instruction names none.
+# A line that goes on with the bytes of a long instruction has nothing after them.
 /^0x/ {
     if (fresh) {
         block = place(substr($1, 3, length($1) - 3))
         instructions[block] = multiplies[block] = divides[block] = 0
         fresh = 0
     }
-    if ($0 !~ /  [a-z]/) next
+    sub(/^0x[0-9a-f]+:  ([0-9a-f][0-9a-f]( |$))+ */, "")
+    if ($0 == "") next
     instructions[block]++
-    if ($0 ~ / i?mul[bwlq]? /) multiplies[block]++
-    if ($0 ~ / i?div[bwlq]? /) divides[block]++
+    if ($0 ~ /^i?mul[bwlq]? /) multiplies[block]++
+    if ($0 ~ /^i?div[bwlq]? /) divides[block]++
     next
 }
 

@@ -1,6 +1,6 @@
-// Calls the proved calls and the plain ones, one after the other, with a call of `mark` before each.
-// bench/run counts the instructions between two marks. Standard output names what stands between
-// them: the call, the widths, by how many the count is divided, and whose it is.
+// Calls the proved calls and the plain ones, one after the other, with a call of `mark` before and
+// after each. bench/run counts the instructions between two marks. Standard output names what stands
+// between them: the call, the widths, by how many of what the count is divided, and whose it is.
 #include <stdio.h>
 #include <stdlib.h>
 #include <string.h>
@@ -49,12 +49,14 @@ static void same(const char *call, const void *a, const void *b, size_t size) {
 }
 
 static void widths(uint32_t k, uint32_t m) {
+    uint32_t number[WHO];
     for (int w = 0; w < WHO; w++) {
         printf("build %u %u %u entry %s\n", k, m, 1u << k, who[w]);
         mark();
-        build[w](k, m, table[w], CELLS);
+        number[w] = build[w](k, m, table[w], CELLS);
         mark();
     }
+    same("build", &number[PROVED], &number[PLAIN], sizeof number[PLAIN]);
     same("build", table[PROVED], table[PLAIN], sizeof table[PLAIN]);
     for (int w = 0; w < WHO; w++) {
         printf("check %u %u %u entry %s\n", k, m, 1u << k, who[w]);
@@ -80,7 +82,11 @@ static void look_ups(uint32_t k, uint32_t m) {
         for (uint32_t x = 32768; x < 65536; x++) look_up[w](k, m, x, table[PLAIN], CELLS, answer[w]);
         mark();
     }
-    same("look_up", answer[PROVED], answer[PLAIN], 3 * sizeof(uint64_t));
+    for (uint32_t x = 32768; x < 65536; x++) {
+        look_up[PROVED](k, m, x, table[PLAIN], CELLS, answer[PROVED]);
+        look_up[PLAIN](k, m, x, table[PLAIN], CELLS, answer[PLAIN]);
+        same("look_up", answer[PROVED], answer[PLAIN], 3 * sizeof(uint64_t));
+    }
 }
 
 int main(void) {

@@ -72,11 +72,12 @@ void plain_survey(uint32_t k, uint32_t m, const uint16_t *table, size_t lent, ui
     uint32_t worst_n = 0, side = 0;
     for (uint32_t n = 0; n < size; n++) {
         if (table[n] >= 1u << m) return survey_answer(out, 5, 0, n, 0);
-        struct plain_errors e = plain_errors_of(unit, size + n, (1u << m) + table[n]);
-        if (e.worst > worst) {
-            worst = e.worst;
+        uint64_t i = size + n, j = (1u << m) + table[n];
+        uint64_t entry_worst = plain_errors_of(unit, i, j).worst;
+        if (entry_worst > worst) {
+            worst = entry_worst;
             worst_n = n;
-            side = e.side;
+            side = plain_errors_of(unit, i, j).side;
         }
     }
     survey_answer(out, 0, worst, worst_n, side);

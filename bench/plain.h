@@ -22,7 +22,7 @@ static inline struct plain_errors plain_errors_of(uint64_t unit, uint64_t i, uin
     return e;
 }
 
-// Each answers document 01's number, and puts the rest of its answer into `out`.
+// Answers document 01's number. The others put that and the rest of their answer into `out`.
 uint32_t plain_build(uint32_t k, uint32_t m, uint16_t *table, size_t lent);
 // number, yes, n, worst, least
 void plain_check(uint32_t k, uint32_t m, const uint16_t *table, size_t lent, uint64_t out[5]);

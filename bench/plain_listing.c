@@ -8,6 +8,8 @@
 
 static uint16_t table[32768];
 static char page[131072];
+// More than any line has.
+enum { LINE = 134 };
 
 static const char *const sides[] = {" left\n", " right\n", " both\n"};
 
@@ -31,8 +33,19 @@ static char *put_field(char *to, const char *label, uint64_t n) {
     return put_number(put_text(to, label), n);
 }
 
+// A number after a space.
+static char *put_next(char *to, uint64_t n) {
+    *to++ = ' ';
+    return put_number(to, n);
+}
+
 static char *put_error(char *to, int64_t e) {
-    return e < 0 ? put_field(to, " -", -e) : put_field(to, " ", e);
+    *to++ = ' ';
+    if (e < 0) {
+        *to++ = '-';
+        e = -e;
+    }
+    return put_number(to, e);
 }
 
 static void write_all(const char *text, size_t size) {
@@ -70,7 +83,7 @@ static int list(uint32_t k, uint32_t m) {
     to = put_field(to, " unit=", unit);
     to = put_text(to, "\n");
     for (uint32_t n = 0; n < 1u << k; n++) {
-        if (page + sizeof page - to < 134) {
+        if (page + sizeof page - to < LINE) {
             write_all(page, to - page);
             to = page;
         }
@@ -78,19 +91,19 @@ static int list(uint32_t k, uint32_t m) {
         uint64_t j = (1u << m) + table[n];
         struct plain_errors e = plain_errors_of(unit, i, j);
         to = put_number(to, n);
-        to = put_field(to, " ", i);
-        to = put_field(to, " ", j);
+        to = put_next(to, i);
+        to = put_next(to, j);
         to = put_error(to, e.low);
         to = put_error(to, e.high);
-        to = put_field(to, " ", e.worst);
+        to = put_next(to, e.worst);
         to = put_text(to, sides[e.side]);
     }
-    if (page + sizeof page - to < 134) {
+    if (page + sizeof page - to < LINE) {
         write_all(page, to - page);
         to = page;
     }
     to = put_field(to, "worst ", survey[1]);
-    to = put_field(to, " ", survey[2]);
+    to = put_next(to, survey[2]);
     to = put_text(to, sides[survey[3]]);
     write_all(page, to - page);
     return 0;

@@ -1,8 +1,8 @@
-// The calls that `bench/` counts, as C calls them: numbers and lent cells in, document 01's numbers
-// out through `out`.
+// The calls that `bench/run` counts, as C calls them. A slice comes as a pointer and a length. What a
+// call answers goes into `out`: document 01's number, and then its values, unused ones zero.
 ghost use mathlib.Core.Path.{_≡_};
 ghost use lib.ListN.{length};
-ghost use Rattle.units.specs.Refusals.{backOf, refusal, tableTests};
+ghost use Rattle.units.specs.Refusals.{refusal, tableTests};
 ghost use Rattle.table.specs.Build.{built};
 ghost use Rattle.table.specs.Lookup.{lookupReport};
 ghost use Rattle.survey.specs.Survey.{surveyReport};
@@ -16,6 +16,7 @@ use recip::check_table;
 use recip::look_up;
 use recip::survey_table;
 
+// It answers the number itself.
 #[no_mangle]
 pub extern "C" fn quirelinnet_build(k: u32, m: u32, table: &mut [u16]) -> u32
     ensures answer { λ r. ⌜ r ≡ refusal (tableTests k m (length (now (table .entry)))) .number ⌝ }
@@ -24,6 +25,7 @@ pub extern "C" fn quirelinnet_build(k: u32, m: u32, table: &mut [u16]) -> u32
     build(k, m, table).number()
 }
 
+// out: number, 1 for yes, n, its worst error, the least one.
 #[no_mangle]
 pub extern "C" fn quirelinnet_check(k: u32, m: u32, table: &[u16], out: &mut [u64; 5])
     ensures { λ _. ⌜ now (out .exit) ≡ checkNumbers (checkReport k m (now (table .entry))) ⌝ }
@@ -44,6 +46,7 @@ pub extern "C" fn quirelinnet_check(k: u32, m: u32, table: &[u16], out: &mut [u6
     }
 }
 
+// out: number, worst error, n, side.
 #[no_mangle]
 pub extern "C" fn quirelinnet_survey(k: u32, m: u32, table: &[u16], out: &mut [u64; 4])
     ensures { λ _. ⌜ now (out .exit) ≡ surveyNumbers (surveyReport k m (now (table .entry))) ⌝ }
@@ -62,6 +65,7 @@ pub extern "C" fn quirelinnet_survey(k: u32, m: u32, table: &[u16], out: &mut [u
     }
 }
 
+// out: number, n, j.
 #[no_mangle]
 pub extern "C" fn quirelinnet_look_up(k: u32, m: u32, x: u32, table: &[u16], out: &mut [u64; 3])
     ensures { λ _. ⌜ now (out .exit) ≡ lookupNumbers (lookupReport k m x (now (table .entry))) ⌝ }

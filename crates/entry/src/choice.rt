@@ -40,7 +40,7 @@ pub fn best_field(k: u32, m: u32, n: Interval) -> u16
 }
 
 // The builder's value for interval n.
-pub fn best(k: u32, m: u32, n: Interval) -> Entry
+fn best(k: u32, m: u32, n: Interval) -> Entry
     requires { ⌜ At k m (n .0) ⌝ }
     ensures { λ r. ⌜ r .0 ≡ ruleValue k m (n .0) ⌝ }
 {

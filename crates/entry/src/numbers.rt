@@ -3,7 +3,6 @@ ghost use mathlib.Core.Path.{_≡_};
 ghost use mathlib.Core.Bool.{cond};
 ghost use Prim.Native.Nat.{_<_, _≤_, _^_};
 ghost use lib.Dec.{leb};
-ghost use Rattle.entry.specs.Bounds.{At};
 ghost use Rattle.entry.specs.Errors.{unit, iOf, jOf};
 ghost use Rattle.entry.specs.Least.{cap};
 use units::Entry;
@@ -34,12 +33,13 @@ pub fn entry_of(m: u32, f: u16) -> Entry
     Entry(power(m) as u32 + f as u32)
 }
 
-// What a field that may be over-wide stores.
+// What `read_field` answers.
 pub enum Stored {
     Entry(Entry),
     TooWide,
 }
 
+// The entry that a field stores, or that it is over-wide.
 pub fn read_field(m: u32, f: u16) -> Stored
     requires { ⌜ m ≤ 15 ⌝ }
     ensures { λ r. ⌜ r ≡ cond (leb (2 ^ m) f) Stored.TooWide (Stored.Entry (record { 0 = jOf m f })) ⌝ }

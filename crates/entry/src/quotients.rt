@@ -19,7 +19,8 @@ pub struct Quotient {
     pub by: u32,
 }
 
-// One interval before n.
+// At the interval before n, so that `next` comes to n: the builder moves on before each cell, and never
+// past the last interval, where over could fall below 0.
 pub fn quotient_before(k: u32, m: u32, n: Interval) -> Quotient
     requires { ⌜ At k m (n .0) ⌝ }
     ensures { λ r. ⌜ Before k m (n .0) (r .over) (r .by) ⌝ }
@@ -44,16 +45,16 @@ impl Quotient {
         }
     }
 
-    // The field, never above the largest of m bits. One division, of 32 bits.
+    // The field: the quotient, but never above the largest number of m bits. One division, of 32 bits.
     pub fn field(self, m: u32) -> u16
         requires { ⌜ (m ≤ 15) × (0 < self .by) ⌝ }
         ensures { λ r. ⌜ r ≡ min (self .over / self .by) (2 ^ m - 1) ⌝ }
     {
-        let nearest = self.over / self.by;
-        let most = power(m) as u32 - 1;
-        if nearest <= most {
-            return nearest as u16;
+        let quotient = self.over / self.by;
+        let size = power(m) as u32;
+        if quotient < size {
+            return quotient as u16;
         }
-        most as u16
+        (size - 1) as u16
     }
 }

@@ -1,9 +1,8 @@
 // "A running tally takes one entry at a time and is handed back."
 ghost use mathlib.Core.Path.{_≡_};
-ghost use Prim.Native.Nat.{max};
-ghost use Rattle.entry.specs.Errors.{jOf, larger as largerSide};
+ghost use Rattle.entry.specs.Errors.{jOf};
 ghost use Rattle.entry.specs.Bounds.{With};
-ghost use Rattle.survey.specs.Finding.{larger};
+ghost use Rattle.survey.specs.Finding.{sizesFound, larger};
 ghost use Rattle.survey.specs.Tally.{findingOf, stateOf, started, talliedAt, reported, tallyReport};
 use entry::Sizes;
 use entry::entry_of;
@@ -42,7 +41,7 @@ impl Finding {
     // "An entry replaces the finding only where its worst is larger": the entry of interval n, with
     // errors of these sizes.
     fn or_larger(self, n: Interval, sizes: Sizes) -> Finding
-        ensures { λ r. ⌜ findingOf r ≡ larger (findingOf self) (record { worst = max (sizes .low .0) (sizes .high .0); n = n .0; side = largerSide (sizes .low .0) (sizes .high .0) }) ⌝ }
+        ensures { λ r. ⌜ findingOf r ≡ larger (findingOf self) (sizesFound (n .0) (sizes .low .0) (sizes .high .0)) ⌝ }
     {
         let worst = sizes.worst();
         if self.worst.0 < worst.0 {

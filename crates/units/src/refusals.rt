@@ -1,4 +1,4 @@
-// The refusal table of document 01: its numbers, and each of its tests, once.
+// The refusal table of document 01: its numbers, and its tests.
 ghost use mathlib.Core.Path.{_≡_};
 ghost use mathlib.Core.List.{[], _∷_};
 ghost use Prim.Native.Nat.{_^_};
@@ -177,7 +177,8 @@ pub fn widths(k: u32, m: u32) -> Outcome
     input_width(k).then(output_width(m))
 }
 
-// 1, 2 and 3, with which every call that takes a whole table begins.
+// 1, 2 and 3, with which survey, check and look up begin. Not joined by `then`: a look-up is little
+// more than these tests (docs/BENCHMARKS.md).
 pub fn whole_table(k: u32, m: u32, lent: usize) -> Outcome
     ensures { λ r. ⌜ backOf r ≡ refusal (tableTests k m lent) ⌝ }
 {

@@ -30,7 +30,7 @@ pub enum CheckAnswer {
     Refused(Refusal),
 }
 
-fn larger(a: u16, b: u16) -> u16
+fn larger_field(a: u16, b: u16) -> u16
     ensures { λ r. ⌜ r ≡ max a b ⌝ }
 {
     if a < b { b } else { a }
@@ -43,7 +43,7 @@ fn largest(cells: &[u16]) -> u16
     let mut most: u16 = 0;
     let mut at: usize = 0;
     while at < cells.len() {
-        most = larger(most, cells[at]);
+        most = larger_field(most, cells[at]);
         at += 1;
     }
     most

@@ -1,7 +1,7 @@
 -- `bench_calls::quirelinnet_check` meets its contract. Assumes nothing.
-use mathlib.Core.Path.{ap, sym, _∙_}
 use Rattle.verdict.specs.Check.{reported}
 use Rattle.bench_calls.specs.Numbers.{checkNumbers}
+use Rattle.bench_calls.proofs.Laws.{numbers-told}
 use borrow.Author.Needs.{needs}
 use Rattle.bench_calls.proofs.quirelinnet_check.Statement.{statement}
 use Rattle.bench_calls.proofs.quirelinnet_check.Tie as tie
@@ -34,16 +34,16 @@ cast-t14 : tie.Need-cast-t14
 cast-t14 c = search needs
 
 returns : tie.Need-returns
-returns c = ap checkNumbers (sym (ap reported (c .before .enum-told .given .1)) ∙ c .before .before .before .check .ensures)
+returns c = numbers-told reported checkNumbers (c .before .enum-told .given .1) (c .before .before .before .check .ensures)
 
 returns-2 : tie.Need-returns-2
-returns-2 c = ap checkNumbers (sym (ap reported (c .before .before .before .n .given .1)) ∙ c .before .before .before .before .before .check .ensures)
+returns-2 c = numbers-told reported checkNumbers (c .before .before .before .n .given .1) (c .before .before .before .before .before .check .ensures)
 
 returns-3 : tie.Need-returns-3
-returns-3 c = ap checkNumbers (sym (ap reported (c .before .before .before .n2 .given .1)) ∙ c .before .before .before .before .before .check .ensures)
+returns-3 c = numbers-told reported checkNumbers (c .before .before .before .n2 .given .1) (c .before .before .before .before .before .check .ensures)
 
 returns-4 : tie.Need-returns-4
-returns-4 c = rw (c .before .number .ensures) (ap checkNumbers (sym (ap reported (c .before .before .before .r .given .1)) ∙ c .before .before .before .before .before .check .ensures))
+returns-4 c = rw (c .before .number .ensures) (numbers-told reported checkNumbers (c .before .before .before .r .given .1) (c .before .before .before .before .before .check .ensures))
 
 pub quirelinnet-check-spec : {M : Type 1} → statement M
 quirelinnet-check-spec =

@@ -1,7 +1,7 @@
 -- `bench_calls::quirelinnet_look_up` meets its contract. Assumes nothing.
-use mathlib.Core.Path.{ap, sym, _∙_}
 use Rattle.table.specs.Lookup.{reported}
 use Rattle.bench_calls.specs.Numbers.{lookupNumbers}
+use Rattle.bench_calls.proofs.Laws.{numbers-told}
 use borrow.Author.Needs.{needs}
 use Rattle.bench_calls.proofs.quirelinnet_look_up.Statement.{statement}
 use Rattle.bench_calls.proofs.quirelinnet_look_up.Tie as tie
@@ -34,13 +34,13 @@ cast-t15 : tie.Need-cast-t15
 cast-t15 c = search needs
 
 returns : tie.Need-returns
-returns c = ap lookupNumbers (sym (ap reported (c .before .before .before .before .n .given .1)) ∙ c .before .before .before .before .before .before .look-up .ensures)
+returns c = numbers-told reported lookupNumbers (c .before .before .before .before .n .given .1) (c .before .before .before .before .before .before .look-up .ensures)
 
 returns-2 : tie.Need-returns-2
-returns-2 c = ap lookupNumbers (sym (ap reported (c .before .before .before .n2 .given .1)) ∙ c .before .before .before .before .before .look-up .ensures)
+returns-2 c = numbers-told reported lookupNumbers (c .before .before .before .n2 .given .1) (c .before .before .before .before .before .look-up .ensures)
 
 returns-3 : tie.Need-returns-3
-returns-3 c = rw (c .before .number .ensures) (ap lookupNumbers (sym (ap reported (c .before .before .before .r .given .1)) ∙ c .before .before .before .before .before .look-up .ensures))
+returns-3 c = rw (c .before .number .ensures) (numbers-told reported lookupNumbers (c .before .before .before .r .given .1) (c .before .before .before .before .before .look-up .ensures))
 
 pub quirelinnet-look-up-spec : {M : Type 1} → statement M
 quirelinnet-look-up-spec =

@@ -1,7 +1,7 @@
 -- `bench_calls::quirelinnet_survey` meets its contract. Assumes nothing.
-use mathlib.Core.Path.{ap, sym, _∙_}
 use Rattle.survey.specs.Survey.{reported}
 use Rattle.bench_calls.specs.Numbers.{surveyNumbers}
+use Rattle.bench_calls.proofs.Laws.{numbers-told}
 use borrow.Author.Needs.{needs}
 use Rattle.bench_calls.proofs.quirelinnet_survey.Statement.{statement}
 use Rattle.bench_calls.proofs.quirelinnet_survey.Tie as tie
@@ -37,13 +37,13 @@ cast-t15 : tie.Need-cast-t15
 cast-t15 c = search needs
 
 returns : tie.Need-returns
-returns c = rw (c .before .number .ensures) (ap surveyNumbers (sym (ap reported (c .before .before .before .before .f .given .1)) ∙ c .before .before .before .before .before .before .whole .ensures))
+returns c = rw (c .before .number .ensures) (numbers-told reported surveyNumbers (c .before .before .before .before .f .given .1) (c .before .before .before .before .before .before .whole .ensures))
 
 returns-2 : tie.Need-returns-2
-returns-2 c = ap surveyNumbers (sym (ap reported (c .before .before .before .n .given .1)) ∙ c .before .before .before .before .before .whole .ensures)
+returns-2 c = numbers-told reported surveyNumbers (c .before .before .before .n .given .1) (c .before .before .before .before .before .whole .ensures)
 
 returns-3 : tie.Need-returns-3
-returns-3 c = rw (c .before .number2 .ensures) (ap surveyNumbers (sym (ap reported (c .before .before .before .r .given .1)) ∙ c .before .before .before .before .before .whole .ensures))
+returns-3 c = rw (c .before .number2 .ensures) (numbers-told reported surveyNumbers (c .before .before .before .r .given .1) (c .before .before .before .before .before .whole .ensures))
 
 pub quirelinnet-survey-spec : {M : Type 1} → statement M
 quirelinnet-survey-spec =

@@ -1,10 +1,10 @@
 -- A survey field by field, from any finding so far. Assumes nothing.
 use Prim.Native.Nat.{ℕ, suc, _^_}
 use mathlib.Core.Bool.{true, false}
-use mathlib.Core.List.{List, [], _∷_, _++_}
-use mathlib.Core.Path.{_≡_, refl, sym}
+use mathlib.Core.List.{List, [], _∷_}
+use mathlib.Core.Path.{_≡_, refl}
 use lib.Dec.{leb}
-use Rattle.units.specs.Refusals.{Back, back, Test, answer}
+use Rattle.units.specs.Refusals.{back, Test, answer}
 use Rattle.units.proofs.Laws.Tests.{Passed, rest-answers}
 use Rattle.entry.specs.Wide.{anyWide, firstWide, wideAmong}
 use Rattle.survey.specs.Finding.{Found, fresh, entryFound, larger, found}

@@ -1,11 +1,10 @@
 -- Where a bank lies. Assumes nothing.
-use Prim.Native.Nat.{ℕ, suc, _+_, _-_, _*_, _^_, _≤_, _<_}
+use Prim.Native.Nat.{ℕ, _+_, _-_, _^_, _≤_, _<_}
 use mathlib.Core.Path.{_≡_}
 use native.Mathlib.Nat.{mul-le-mul-right}
 use native.Mathlib.Omega.{arith}
 use borrow.Author.Tests.{leb-false, ltb-false}
 use lib.Pow.{pow-mono, pow-pos}
-use Rattle.units.specs.Refusals.{widthTests}
 use Rattle.units.proofs.Laws.Powers.{power-splits}
 use Rattle.units.proofs.Laws.Tests.{Passed}
 use Rattle.table.specs.Banks.{bankSize, bankStart, bankPlace}

@@ -19,14 +19,14 @@ abbrev μ-loop : tie.MeasureT-loop
 loop-holds : tie.Need-loop-holds Inv-loop μ-loop
 loop-holds c = (search needs, omega arith)
 
-mul-larger : tie.Need-mul-larger Inv-loop μ-loop
-mul-larger c = search needs
+mul-larger-field : tie.Need-mul-larger-field Inv-loop μ-loop
+mul-larger-field c = search needs
 
-shared-slice-read-larger : tie.Need-shared-slice-read-larger Inv-loop μ-loop
-shared-slice-read-larger c = search needs
+shared-slice-read-larger-field : tie.Need-shared-slice-read-larger-field Inv-loop μ-loop
+shared-slice-read-larger-field c = search needs
 
-larger-requires : tie.Need-larger-requires Inv-loop μ-loop
-larger-requires c κs = search needs
+larger-field-requires : tie.Need-larger-field-requires Inv-loop μ-loop
+larger-field-requires c κs = search needs
 
 add-at : tie.Need-add-at Inv-loop μ-loop
 add-at c = search needs
@@ -38,7 +38,7 @@ loop-again : tie.Need-loop-again Inv-loop μ-loop
 loop-again c =
     let loop = c .before .before .before .loop in
     let cells = c .before .before .before .before .before .args .cells .now in
-    (omega arith, omega (arith, c .larger .ensures, loop .inv .1, largest-after cells (loop .at) (omega arith)))
+    (omega arith, omega (arith, c .larger-field .ensures, loop .inv .1, largest-after cells (loop .at) (omega arith)))
 
 returns : tie.Need-returns Inv-loop μ-loop
 returns c =
@@ -54,9 +54,9 @@ largest-spec =
     Inv-loop
     μ-loop
     loop-holds
-    mul-larger
-    shared-slice-read-larger
-    larger-requires
+    mul-larger-field
+    shared-slice-read-larger-field
+    larger-field-requires
     add-at
     loop-less
     loop-again
