@@ -30,8 +30,9 @@ static void no_look_up(uint32_t k, uint32_t m, uint32_t x, const uint16_t *table
 enum { NOTHING, PROVED, PLAIN, WHO };
 static const char *const who[WHO] = {"nothing", "proved", "plain"};
 static uint32_t (*volatile build[WHO])(uint32_t, uint32_t, uint16_t *, size_t) = {no_build, quirelinnet_build, plain_build};
-static void (*volatile check[WHO])(uint32_t, uint32_t, const uint16_t *, size_t, uint64_t *) = {no_read, quirelinnet_check, plain_check};
-static void (*volatile survey[WHO])(uint32_t, uint32_t, const uint16_t *, size_t, uint64_t *) = {no_read, quirelinnet_survey, plain_survey};
+typedef void read_call(uint32_t k, uint32_t m, const uint16_t *table, size_t lent, uint64_t *out);
+static read_call *volatile check[WHO] = {no_read, quirelinnet_check, plain_check};
+static read_call *volatile survey[WHO] = {no_read, quirelinnet_survey, plain_survey};
 static void (*volatile look_up[WHO])(uint32_t, uint32_t, uint32_t, const uint16_t *, size_t, uint64_t *) = {no_look_up, quirelinnet_look_up, plain_look_up};
 
 __attribute__((noinline)) void mark(void) {
@@ -48,6 +49,17 @@ static void same(const char *call, const void *a, const void *b, size_t size) {
     exit(1);
 }
 
+// A call that reads the table, and answers so many values.
+static void reads(const char *name, read_call *volatile *call, uint32_t k, uint32_t m, size_t values) {
+    for (int w = 0; w < WHO; w++) {
+        printf("%s %u %u %u entry %s\n", name, k, m, 1u << k, who[w]);
+        mark();
+        call[w](k, m, table[PLAIN], CELLS, answer[w]);
+        mark();
+    }
+    same(name, answer[PROVED], answer[PLAIN], values * sizeof(uint64_t));
+}
+
 static void widths(uint32_t k, uint32_t m) {
     uint32_t number[WHO];
     for (int w = 0; w < WHO; w++) {
@@ -58,20 +70,8 @@ static void widths(uint32_t k, uint32_t m) {
     }
     same("build", &number[PROVED], &number[PLAIN], sizeof number[PLAIN]);
     same("build", table[PROVED], table[PLAIN], sizeof table[PLAIN]);
-    for (int w = 0; w < WHO; w++) {
-        printf("check %u %u %u entry %s\n", k, m, 1u << k, who[w]);
-        mark();
-        check[w](k, m, table[PLAIN], CELLS, answer[w]);
-        mark();
-    }
-    same("check", answer[PROVED], answer[PLAIN], 5 * sizeof(uint64_t));
-    for (int w = 0; w < WHO; w++) {
-        printf("survey %u %u %u entry %s\n", k, m, 1u << k, who[w]);
-        mark();
-        survey[w](k, m, table[PLAIN], CELLS, answer[w]);
-        mark();
-    }
-    same("survey", answer[PROVED], answer[PLAIN], 4 * sizeof(uint64_t));
+    reads("check", check, k, m, 5);
+    reads("survey", survey, k, m, 4);
 }
 
 // Every divisor once.

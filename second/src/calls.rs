@@ -227,36 +227,33 @@ pub fn survey(k: u64, m: u64, cells: &[u16]) -> Survey {
 }
 
 /// "A bank can be surveyed by itself, given its number; it then answers with n
-/// counted in the whole table." Here the cells lent are the bank's own.
-pub fn survey_bank_alone(k: u64, m: u64, h: u64, b: u64, cells: &[u16]) -> Survey {
+/// counted in the whole table." Of the cells lent, those of the bank are the
+/// first, or lie at its place in the table.
+fn survey_bank(k: u64, m: u64, h: u64, b: u64, lent: Lent, cells: &[u16]) -> Survey {
+    let in_table = matches!(lent, Lent::BankInTable(_));
     let number = refusal(Tests {
         k,
         m: Some(m),
         bank: Some((h, b)),
-        lent: Some(Lent::BankAlone(cells.len())),
+        lent: Some(lent),
         ..Tests::default()
     });
     if number != 0 {
         return Survey::refused(number);
     }
     let places = bank_places(k, h, b);
-    survey_fields(k, m, places.start as u64, &cells[..places.len()])
+    let from = if in_table { places.start } else { 0 };
+    survey_fields(k, m, places.start as u64, &cells[from..from + places.len()])
 }
 
-/// The same bank survey, given the table the bank lies in.
+/// A bank survey that is lent the bank's own cells.
+pub fn survey_bank_alone(k: u64, m: u64, h: u64, b: u64, cells: &[u16]) -> Survey {
+    survey_bank(k, m, h, b, Lent::BankAlone(cells.len()), cells)
+}
+
+/// A bank survey that is lent the table the bank lies in.
 pub fn survey_bank_in_table(k: u64, m: u64, h: u64, b: u64, cells: &[u16]) -> Survey {
-    let number = refusal(Tests {
-        k,
-        m: Some(m),
-        bank: Some((h, b)),
-        lent: Some(Lent::BankInTable(cells.len())),
-        ..Tests::default()
-    });
-    if number != 0 {
-        return Survey::refused(number);
-    }
-    let places = bank_places(k, h, b);
-    survey_fields(k, m, places.start as u64, &cells[places])
+    survey_bank(k, m, h, b, Lent::BankInTable(cells.len()), cells)
 }
 
 // ---- The running tally -----------------------------------------------------
