@@ -3,6 +3,7 @@
 ghost use mathlib.Core.Path.{_≡_};
 ghost use lib.ListN.{length};
 ghost use Rattle.units.specs.Refusals.{refusal, tableTests};
+ghost use Rattle.units.specs.Shapes.{shape};
 ghost use Rattle.table.specs.Build.{built};
 ghost use Rattle.table.specs.Lookup.{lookupReport};
 ghost use Rattle.survey.specs.Survey.{surveyReport};
@@ -10,6 +11,7 @@ ghost use Rattle.verdict.specs.Check.{checkReport};
 ghost use Rattle.bench_calls.specs.Numbers.{checkNumbers, surveyNumbers, lookupNumbers};
 use recip::CheckAnswer;
 use recip::LookupAnswer;
+use recip::Shape;
 use recip::SurveyAnswer;
 use recip::build;
 use recip::check_table;
@@ -19,18 +21,18 @@ use recip::survey_table;
 // It answers the number itself.
 #[no_mangle]
 pub extern "C" fn quirelinnet_build(k: u32, m: u32, table: &mut [u16]) -> u32
-    ensures answer { λ r. ⌜ r ≡ refusal (tableTests k m (length (now (table .entry)))) .number ⌝ }
-    ensures cells { λ _. ⌜ now (table .exit) ≡ built k m (now (table .entry)) ⌝ }
+    ensures answer { λ r. ⌜ r ≡ refusal (tableTests (shape k m) (length (now (table .entry)))) .number ⌝ }
+    ensures cells { λ _. ⌜ now (table .exit) ≡ built (shape k m) (now (table .entry)) ⌝ }
 {
-    build(k, m, table).number()
+    build(Shape { k: k, m: m }, table).number()
 }
 
 // out: number, 1 for yes, n, its worst error, the least one.
 #[no_mangle]
 pub extern "C" fn quirelinnet_check(k: u32, m: u32, table: &[u16], out: &mut [u64; 5])
-    ensures { λ _. ⌜ now (out .exit) ≡ checkNumbers (checkReport k m (now (table .entry))) ⌝ }
+    ensures { λ _. ⌜ now (out .exit) ≡ checkNumbers (checkReport (shape k m) (now (table .entry))) ⌝ }
 {
-    match check_table(k, m, table) {
+    match check_table(Shape { k: k, m: m }, table) {
         CheckAnswer::Yes => {
             *out = [0, 1, 0, 0, 0];
         }
@@ -49,9 +51,9 @@ pub extern "C" fn quirelinnet_check(k: u32, m: u32, table: &[u16], out: &mut [u6
 // out: number, worst error, n, side.
 #[no_mangle]
 pub extern "C" fn quirelinnet_survey(k: u32, m: u32, table: &[u16], out: &mut [u64; 4])
-    ensures { λ _. ⌜ now (out .exit) ≡ surveyNumbers (surveyReport k m (now (table .entry))) ⌝ }
+    ensures { λ _. ⌜ now (out .exit) ≡ surveyNumbers (surveyReport (shape k m) (now (table .entry))) ⌝ }
 {
-    match survey_table(k, m, table) {
+    match survey_table(Shape { k: k, m: m }, table) {
         SurveyAnswer::Surveyed(f) => {
             let side = f.side;
             *out = [0, f.worst.0, f.n.0 as u64, side.number() as u64];
@@ -68,9 +70,9 @@ pub extern "C" fn quirelinnet_survey(k: u32, m: u32, table: &[u16], out: &mut [u
 // out: number, n, j.
 #[no_mangle]
 pub extern "C" fn quirelinnet_look_up(k: u32, m: u32, x: u32, table: &[u16], out: &mut [u64; 3])
-    ensures { λ _. ⌜ now (out .exit) ≡ lookupNumbers (lookupReport k m x (now (table .entry))) ⌝ }
+    ensures { λ _. ⌜ now (out .exit) ≡ lookupNumbers (lookupReport (shape k m) x (now (table .entry))) ⌝ }
 {
-    match look_up(k, m, x, table) {
+    match look_up(Shape { k: k, m: m }, x, table) {
         LookupAnswer::Found { n, j } => {
             *out = [0, n.0 as u64, j.0 as u64];
         }

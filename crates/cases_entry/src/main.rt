@@ -6,9 +6,13 @@ use entry::ErrorAnswer;
 use entry::best_field;
 use entry::entry_error;
 use entry::entry_of;
-use libc::STDOUT_FILENO;
+use programs::column;
+use programs::long_column;
+use programs::number;
+use programs::text;
 use units::Error;
 use units::Interval;
+use units::Shape;
 
 // k and m: below the widths, their ends, above them.
 const WIDTHS: [u32; 4] = [0, 1, 15, 16];
@@ -53,14 +57,6 @@ const FIELDS: [u16; 16] = [
     65535,
 ];
 
-fn text(s: &[u8]) {
-    io::write_all(STDOUT_FILENO, s);
-}
-
-fn number(n: u64) {
-    io::print_decimal(STDOUT_FILENO, n);
-}
-
 fn signed(e: Error) {
     if e.is_negative() {
         text(b"-");
@@ -76,15 +72,13 @@ fn answer(a: ErrorAnswer) {
             signed(e.low);
             text(b" ");
             signed(e.high);
-            text(b" ");
-            number(e.worst.0);
-            text(b" ");
+            long_column(e.worst.0);
             let s = e.side;
-            number(s.number() as u64);
+            column(s.number());
         }
         ErrorAnswer::TooWide(n) => {
-            text(b"5 ");
-            number(n.0 as u64);
+            text(b"5");
+            column(n.0);
             text(b" 0 0 0 0");
         }
         ErrorAnswer::Refused(r) => {
@@ -96,14 +90,11 @@ fn answer(a: ErrorAnswer) {
 
 fn edge(k: u32, m: u32, n: u32, f: u16) {
     number(k as u64);
-    text(b" ");
-    number(m as u64);
-    text(b" ");
-    number(n as u64);
-    text(b" ");
-    number(f as u64);
+    column(m);
+    column(n);
+    column(f as u32);
     text(b": ");
-    answer(entry_error(k, m, Interval(n), f));
+    answer(entry_error(Shape::of(k, m), Interval(n), f));
     text(b"\n");
 }
 
@@ -123,14 +114,15 @@ fn edge_case(c: usize)
 
 // "63/64 (-31,32]": a row's entry and its relative error interval, as Table 1 prints them.
 fn entry(m: u32, n: u32)
-    requires { ⌜ (m ≤ 6) × (n < 32) ⌝ }
+    requires { ⌜ (1 ≤ m) × ((m ≤ 6) × (n < 32)) ⌝ }
 {
-    let f = best_field(5, m, Interval(n));
-    number(entry_of(m, f).0 as u64);
+    let shape = Shape { k: 5, m: m };
+    let f = best_field(shape, Interval(n));
+    number(entry_of(shape, f).0 as u64);
     text(b"/");
     number(units::power(m + 1));
     text(b" (");
-    match entry_error(5, m, Interval(n), f) {
+    match entry_error(shape, Interval(n), f) {
         ErrorAnswer::Done(e) => {
             signed(e.low);
             text(b",");
@@ -156,11 +148,19 @@ fn row(n: u32)
     text(b"\n");
 }
 
-fn main() {
+fn edges() {
     for c in 0..256 {
         edge_case(c);
     }
+}
+
+fn rows() {
     for n in 0..32 {
         row(n);
     }
+}
+
+fn main() {
+    edges();
+    rows();
 }

@@ -4,13 +4,19 @@
 // folded into the digest are those of `second/README.md`. The file `stdout` is not this program's
 // output: the program in `second/` wrote it by `second hostile`.
 ghost use Prim.Native.Nat.{_<_, _≤_};
-use libc::STDOUT_FILENO;
+use programs::digest_of;
+use programs::long_column;
+use programs::number;
+use programs::stir;
+use programs::stir_cells;
+use programs::text;
 use recip::CheckAnswer;
 use recip::Error;
 use recip::ErrorAnswer;
 use recip::Errors;
 use recip::Interval;
 use recip::LookupAnswer;
+use recip::Shape;
 use recip::SurveyAnswer;
 use recip::Tally;
 use recip::TallyAnswer;
@@ -28,8 +34,7 @@ use recip::survey_table;
 // What is drawn for a call.
 struct Inputs {
     op: u64,
-    k: u32,
-    m: u32,
+    shape: Shape,
     h: u32,
     b: u32,
     n: u32,
@@ -87,8 +92,7 @@ fn drawn(state: &mut u64) -> Inputs {
     let lent = small(state, 65) as usize;
     Inputs {
         op: op,
-        k: k,
-        m: m,
+        shape: Shape::of(k, m),
         h: h,
         b: b,
         n: n,
@@ -100,23 +104,15 @@ fn drawn(state: &mut u64) -> Inputs {
 
 // The digest of one value more.
 fn fold(digest: &mut u64, value: u64) {
-    *digest = (*digest % 4294967296 * 31 + value % 4294967296) % 4294967296;
+    *digest = stir(*digest, value);
 }
 
 fn fold_number(digest: &mut u64, value: u32) {
     fold(digest, value as u64);
 }
 
-fn fold_cell(digest: &mut u64, cell: u16) {
-    fold(digest, cell as u64);
-}
-
 fn fold_cells(digest: &mut u64, cells: &[u16]) {
-    let mut at = 0;
-    while at < cells.len() {
-        fold_cell(digest, cells[at]);
-        at += 1;
-    }
+    *digest = stir_cells(*digest, cells);
 }
 
 fn fold_zeros(digest: &mut u64, count: u32) {
@@ -254,8 +250,9 @@ fn taken(digest: &mut u64, a: TallyAnswer) -> Tally {
 fn fold_tally(digest: &mut u64, t: Tally) {
     let f = t.finding;
     let side = f.side;
-    fold_number(digest, t.k);
-    fold_number(digest, t.m);
+    let shape = t.shape;
+    fold_number(digest, shape.k);
+    fold_number(digest, shape.m);
     fold_number(digest, t.next.0);
     fold(digest, f.worst.0);
     fold_number(digest, f.n.0);
@@ -266,14 +263,12 @@ fn fold_tally(digest: &mut u64, t: Tally) {
 fn shown(digest: &mut u64, k: u32, h: u32, b: u32, cells: &[u16]) {
     fold_number(digest, show_bank_number(k, h, b, cells).number());
     let bank = show_bank(k, h, b, cells);
-    let mut own: u64 = 0;
-    fold_cells(&mut own, bank);
     fold(digest, bank.len() as u64);
-    fold(digest, own);
+    fold(digest, digest_of(bank));
 }
 
-fn tallied(digest: &mut u64, k: u32, m: u32, n: u32, f: u16) {
-    let first = taken(digest, Tally::start(k, m, Interval(n)).take(f));
+fn tallied(digest: &mut u64, shape: Shape, n: u32, f: u16) {
+    let first = taken(digest, Tally::start(shape, Interval(n)).take(f));
     let second = taken(digest, first.take(f % 4));
     fold_tally(digest, second);
 }
@@ -282,13 +277,13 @@ fn tallied(digest: &mut u64, k: u32, m: u32, n: u32, f: u16) {
 fn read(digest: &mut u64, i: Inputs, cells: &[u16]) {
     let op = i.op;
     match op {
-        2 => shown(digest, i.k, i.h, i.b, cells),
-        3 => fold_entry(digest, entry_error(i.k, i.m, Interval(i.n), i.f)),
-        4 => fold_survey(digest, survey_table(i.k, i.m, cells)),
-        5 => fold_survey(digest, survey_bank(i.k, i.m, i.h, i.b, cells)),
-        6 => fold_survey(digest, survey_bank_of(i.k, i.m, i.h, i.b, cells)),
-        7 => fold_check(digest, check_table(i.k, i.m, cells)),
-        _ => fold_lookup(digest, look_up(i.k, i.m, i.x, cells)),
+        2 => shown(digest, i.shape.k, i.h, i.b, cells),
+        3 => fold_entry(digest, entry_error(i.shape, Interval(i.n), i.f)),
+        4 => fold_survey(digest, survey_table(i.shape, cells)),
+        5 => fold_survey(digest, survey_bank(i.shape, i.h, i.b, cells)),
+        6 => fold_survey(digest, survey_bank_of(i.shape, i.h, i.b, cells)),
+        7 => fold_check(digest, check_table(i.shape, cells)),
+        _ => fold_lookup(digest, look_up(i.shape, i.x, cells)),
     }
 }
 
@@ -299,7 +294,7 @@ fn lend_to_build(digest: &mut u64, i: Inputs, cells: &mut [u16]) {
     if cells.len() < lent {
         return;
     }
-    fold_number(digest, build(i.k, i.m, &mut cells[0..lent]).number());
+    fold_number(digest, build(i.shape, &mut cells[0..lent]).number());
     fold_cells(digest, cells);
 }
 
@@ -310,7 +305,7 @@ fn lend_to_bank(digest: &mut u64, i: Inputs, cells: &mut [u16]) {
     }
     fold_number(
         digest,
-        build_bank(i.k, i.m, i.h, i.b, &mut cells[0..lent]).number(),
+        build_bank(i.shape, i.h, i.b, &mut cells[0..lent]).number(),
     );
     fold_cells(digest, cells);
 }
@@ -331,7 +326,7 @@ fn damage(digest: &mut u64, i: Inputs, cells: &mut [u16]) {
         return;
     }
     cells[at] = i.f;
-    tallied(digest, i.k, i.m, i.n, i.f);
+    tallied(digest, i.shape, i.n, i.f);
 }
 
 fn call(digest: &mut u64, i: Inputs, cells: &mut [u16]) {
@@ -355,14 +350,9 @@ fn thousand(state: &mut u64, digest: &mut u64, cells: &mut [u16]) {
     }
 }
 
-fn text(s: &[u8]) {
-    io::write_all(STDOUT_FILENO, s);
-}
-
 fn line(calls: u64, digest: u64) {
-    io::print_decimal(STDOUT_FILENO, calls);
-    text(b" ");
-    io::print_decimal(STDOUT_FILENO, digest);
+    number(calls);
+    long_column(digest);
     text(b"\n");
 }
 

@@ -2,9 +2,11 @@
 // lines are transcribed from the source's Tables 6 and 7 (row k = 13, g = 0 of Table 7 is a misprint;
 // the worst is at n = 45), and the others are worked out from document 01's definitions.
 ghost use Prim.Native.Nat.{_<_, _≤_};
-ghost use mathlib.Core.Path.{_≡_};
-ghost use lib.ListN.{length};
-use libc::STDOUT_FILENO;
+use programs::column;
+use programs::labelled;
+use programs::long_column;
+use programs::text;
+use programs::zeroed;
 use survey::Finding;
 use survey::SurveyAnswer;
 use survey::Tally;
@@ -12,6 +14,7 @@ use survey::TallyAnswer;
 use table::build;
 use units::Interval;
 use units::Outcome;
+use units::Shape;
 use units::Side;
 use units::Worst;
 use verdict::CheckAnswer;
@@ -19,51 +22,27 @@ use verdict::CheckAnswer;
 // The rows of Table 6 with m up to 15: k, and m = k + g.
 const TABLE_6: [u32; 14] = [5, 5, 5, 6, 5, 7, 10, 10, 10, 11, 10, 12, 15, 15];
 
-fn text(s: &[u8]) {
-    io::write_all(STDOUT_FILENO, s);
-}
-
-fn long(n: u64) {
-    io::print_decimal(STDOUT_FILENO, n);
-}
-
-fn number(n: u32) {
-    text(b" ");
-    long(n as u64);
-}
-
-fn wide(n: u64) {
-    text(b" ");
-    long(n);
-}
-
-fn zeroed() -> [u16; 32768]
-    ensures { λ r. ⌜ 32768 ≡ length r ⌝ }
-{
-    [0; 32768]
-}
-
 fn finding(f: Finding) {
-    number(f.n.0);
-    wide(f.worst.0);
+    column(f.n.0);
+    long_column(f.worst.0);
     let s = f.side;
-    number(s.number());
+    column(s.number());
 }
 
 // The number, n, worst and side of a survey, unused ones zero.
 fn surveyed(a: SurveyAnswer) {
     match a {
         SurveyAnswer::Surveyed(f) => {
-            number(0);
+            column(0);
             finding(f);
         }
         SurveyAnswer::TooWide(n) => {
-            number(5);
-            number(n.0);
+            column(5);
+            column(n.0);
             text(b" 0 0");
         }
         SurveyAnswer::Refused(r) => {
-            number(r.number());
+            column(r.number());
             text(b" 0 0 0");
         }
     }
@@ -75,27 +54,27 @@ fn checked(a: CheckAnswer) {
         CheckAnswer::Yes => text(b" 0 yes 0 0 0"),
         CheckAnswer::NotBest { n, worst, least } => {
             text(b" 0 no");
-            number(n.0);
-            wide(worst.0);
-            wide(least.0);
+            column(n.0);
+            long_column(worst.0);
+            long_column(least.0);
         }
         CheckAnswer::TooWide(n) => {
             text(b" 5 no");
-            number(n.0);
+            column(n.0);
             text(b" 0 0");
         }
         CheckAnswer::Refused(r) => {
-            number(r.number());
+            column(r.number());
             text(b" no 0 0 0");
         }
     }
 }
 
-// The worst finding of the best table of k and m; a fresh one where the survey is refused.
-fn worst_of(k: u32, m: u32) -> Finding {
+// The worst finding of the best table of a shape; a fresh one where the survey is refused.
+fn worst_of(shape: Shape) -> Finding {
     let mut cells = zeroed();
-    let built: Outcome = build(k, m, &mut cells);
-    match survey::whole(k, m, &cells) {
+    let built: Outcome = build(shape, &mut cells);
+    match survey::whole(shape, &cells) {
         SurveyAnswer::Surveyed(f) => f,
         _ => Finding {
             worst: Worst(0),
@@ -121,14 +100,10 @@ fn line_of_table_6(k: u32, m: u32) {
     if 15 < m {
         return;
     }
-    text(b"k=");
-    long(k as u64);
-    text(b" g=");
-    long((m - k) as u64);
-    text(b" ");
-    long(worst_of(k, m).worst.0);
-    text(b"/2^");
-    long((k + m + 1) as u64);
+    labelled(b"k=", k as u64);
+    labelled(b" g=", (m - k) as u64);
+    long_column(worst_of(Shape::of(k, m)).worst.0);
+    labelled(b"/2^", (k + m + 1) as u64);
     text(b"\n");
 }
 
@@ -158,31 +133,31 @@ fn chopped(k: u32, n: u32) {
 fn table_7(k: u32)
     requires { ⌜ k ≤ 15 ⌝ }
 {
-    text(b"k=");
-    long(k as u64);
-    chopped(k, worst_of(k, k).n.0);
+    labelled(b"k=", k as u64);
+    chopped(k, worst_of(Shape::of(k, k)).n.0);
     if k < 15 {
-        chopped(k, worst_of(k, k + 1).n.0);
+        chopped(k, worst_of(Shape::of(k, k + 1)).n.0);
     }
     text(b"\n");
 }
 
 // The answers of all surveys and of the check on the same cells.
 fn all_on(k: u32, m: u32, h: u32, b: u32, cells: &[u16]) {
+    let shape = Shape::of(k, m);
     text(b"on");
-    number(k);
-    number(m);
-    number(h);
-    number(b);
-    wide(cells.len() as u64);
+    column(k);
+    column(m);
+    column(h);
+    column(b);
+    long_column(cells.len() as u64);
     text(b":");
-    surveyed(survey::whole(k, m, cells));
+    surveyed(survey::whole(shape, cells));
     text(b",");
-    surveyed(survey::bank(k, m, h, b, cells));
+    surveyed(survey::bank(shape, h, b, cells));
     text(b",");
-    surveyed(survey::bank_of(k, m, h, b, cells));
+    surveyed(survey::bank_of(shape, h, b, cells));
     text(b",");
-    checked(verdict::check(k, m, cells));
+    checked(verdict::check(shape, cells));
     text(b"\n");
 }
 
@@ -192,7 +167,7 @@ fn damaged(at: usize)
     requires { ⌜ at < 32 ⌝ }
 {
     let mut cells = [0u16; 32];
-    let built: Outcome = build(5, 5, &mut cells);
+    let built: Outcome = build(Shape::of(5, 5), &mut cells);
     cells[at] = 32;
     cells[(at + 31) % 32] = 0;
     all_on(5, 5, 1, 0, &cells);
@@ -209,7 +184,7 @@ fn refused() {
     all_on(5, 0, 0, 0, &cells);
     all_on(16, 16, 0, 0, &cells);
     all_on(6, 5, 3, 7, &cells);
-    let built: Outcome = build(5, 15, &mut cells);
+    let built: Outcome = build(Shape::of(5, 15), &mut cells);
     all_on(5, 15, 0, 0, &cells);
     all_on(5, 15, 2, 3, &cells);
     all_on(5, 15, 2, 4, &cells);
@@ -221,9 +196,10 @@ fn refused() {
 }
 
 fn state(t: Tally) {
-    number(t.k);
-    number(t.m);
-    number(t.next.0);
+    let shape = t.shape;
+    column(shape.k);
+    column(shape.m);
+    column(t.next.0);
     let f = t.finding;
     finding(f);
 }
@@ -236,12 +212,12 @@ fn taken(a: TallyAnswer) {
             state(t);
         }
         TallyAnswer::TooWide(n, t) => {
-            number(5);
-            number(n.0);
+            column(5);
+            column(n.0);
             state(t);
         }
         TallyAnswer::Refused(r, t) => {
-            number(r.number());
+            column(r.number());
             text(b" 0");
             state(t);
         }
@@ -252,8 +228,7 @@ fn taken(a: TallyAnswer) {
 // Tallies with a finding that no survey has, and any widths and next n.
 fn forged(k: u32, m: u32, next: u32, worst: u64, f: u16) {
     let tally = Tally {
-        k: k,
-        m: m,
+        shape: Shape::of(k, m),
         next: Interval(next),
         finding: Finding {
             worst: Worst(worst),
@@ -267,9 +242,9 @@ fn forged(k: u32, m: u32, next: u32, worst: u64, f: u16) {
 
 fn tallies() {
     text(b"tally");
-    taken(Tally::start(5, 5, Interval(8)).take(19));
+    taken(Tally::start(Shape::of(5, 5), Interval(8)).take(19));
     text(b"tally");
-    taken(Tally::start(4294967295, 4294967295, Interval(4294967295)).take(65535));
+    taken(Tally::start(Shape::of(4294967295, 4294967295), Interval(4294967295)).take(65535));
     forged(15, 15, 32767, 0, 32767);
     forged(15, 15, 32767, 18446744073709551615, 32767);
     forged(15, 15, 32767, 0, 32768);
@@ -280,13 +255,21 @@ fn tallies() {
     forged(5, 5, 8, 43, 19);
 }
 
-fn main() {
+fn lines_of_table_6() {
     for row in 0..7 {
         table_6(row);
     }
+}
+
+fn lines_of_table_7() {
     for k in 5..16 {
         table_7(k);
     }
+}
+
+fn main() {
+    lines_of_table_6();
+    lines_of_table_7();
     damaged(0);
     damaged(15);
     damaged(31);

@@ -5,7 +5,10 @@
 ghost use Prim.Native.Nat.{_<_};
 ghost use mathlib.Core.Path.{_≡_};
 ghost use lib.ListN.{length};
-use libc::STDOUT_FILENO;
+use programs::column;
+use programs::digest_of;
+use programs::long_column;
+use programs::text;
 use table::LookupAnswer;
 use table::build;
 use table::build_bank;
@@ -13,6 +16,7 @@ use table::look_up;
 use table::show_bank;
 use table::show_bank_number;
 use units::Outcome;
+use units::Shape;
 
 // k and m: below the widths, their ends, above them; and for each k a cell less than 2^k, 2^k, and a
 // cell more (of 2^16, what the buffer has).
@@ -27,41 +31,10 @@ const BANKS: [u32; 6] = [0, 1, 31, 32, 63, 64];
 
 const DIVISORS: [u32; 7] = [0, 32767, 32768, 40960, 65535, 65536, 4294967295];
 
-fn text(s: &[u8]) {
-    io::write_all(STDOUT_FILENO, s);
-}
-
-fn long(n: u64) {
-    text(b" ");
-    io::print_decimal(STDOUT_FILENO, n);
-}
-
-fn number(n: u32) {
-    long(n as u64);
-}
-
 fn marked() -> [u16; 32769]
     ensures { λ r. ⌜ 32769 ≡ length r ⌝ }
 {
     [43981; 32769]
-}
-
-// The digest of one cell more.
-fn stir(digest: u64, cell: u16) -> u64
-    requires { ⌜ digest < 4294967296 ⌝ }
-    ensures { λ r. ⌜ r < 4294967296 ⌝ }
-{
-    (digest * 31 + cell as u64) % 4294967296
-}
-
-fn digest_of(cells: &[u16]) -> u64 {
-    let mut digest: u64 = 0;
-    let mut at = 0;
-    while at < cells.len() {
-        digest = stir(digest, cells[at]);
-        at += 1;
-    }
-    digest
 }
 
 fn changed(cells: &[u16]) -> usize {
@@ -77,9 +50,9 @@ fn changed(cells: &[u16]) -> usize {
 }
 
 fn end(number_given: u32, cells: &[u16]) {
-    number(number_given);
-    long(changed(cells) as u64);
-    long(digest_of(cells));
+    column(number_given);
+    long_column(changed(cells) as u64);
+    long_column(digest_of(cells));
     text(b"\n");
 }
 
@@ -89,11 +62,11 @@ fn lend_to_build(k: u32, m: u32, lent: usize, cells: &mut [u16]) {
         return;
     }
     text(b"build");
-    number(k);
-    number(m);
-    long(lent as u64);
+    column(k);
+    column(m);
+    long_column(lent as u64);
     text(b":");
-    let answer = build(k, m, &mut cells[0..lent]);
+    let answer = build(Shape::of(k, m), &mut cells[0..lent]);
     end(answer.number(), cells);
 }
 
@@ -110,11 +83,11 @@ fn lend_to_bank(h: u32, b: u32, lent: usize, cells: &mut [u16]) {
         return;
     }
     text(b"bank");
-    number(h);
-    number(b);
-    long(lent as u64);
+    column(h);
+    column(b);
+    long_column(lent as u64);
     text(b":");
-    let answer = build_bank(5, 5, h, b, &mut cells[0..lent]);
+    let answer = build_bank(Shape::of(5, 5), h, b, &mut cells[0..lent]);
     end(answer.number(), cells);
 }
 
@@ -128,14 +101,14 @@ fn bank_case(c: usize)
 // "show h b: number cells digest", for a built table of k = 5 and m = 5
 fn show(h: u32, b: u32, cells: &mut [u16]) {
     text(b"show");
-    number(h);
-    number(b);
+    column(h);
+    column(b);
     text(b":");
-    let built: Outcome = build(5, 5, cells);
-    number(show_bank_number(5, h, b, cells).number());
+    let built: Outcome = build(Shape::of(5, 5), cells);
+    column(show_bank_number(5, h, b, cells).number());
     let bank = show_bank(5, h, b, cells);
-    long(bank.len() as u64);
-    long(digest_of(bank));
+    long_column(bank.len() as u64);
+    long_column(digest_of(bank));
     text(b"\n");
 }
 
@@ -149,19 +122,19 @@ fn show_case(c: usize)
 fn looked_up(a: LookupAnswer) {
     match a {
         LookupAnswer::Found { n, j } => {
-            number(0);
-            number(n.0);
-            number(j.0);
+            column(0);
+            column(n.0);
+            column(j.0);
         }
         LookupAnswer::TooWide(n) => {
-            number(5);
-            number(n.0);
-            number(0);
+            column(5);
+            column(n.0);
+            column(0);
         }
         LookupAnswer::Refused(r) => {
-            number(r.number());
-            number(0);
-            number(0);
+            column(r.number());
+            column(0);
+            column(0);
         }
     }
 }
@@ -169,24 +142,25 @@ fn looked_up(a: LookupAnswer) {
 // "look k m X cells: number n j, number n j", first in a table of 43981s and then in a built one
 fn look(k: u32, m: u32, x: u32, lent: usize) {
     text(b"look");
-    number(k);
-    number(m);
-    number(x);
-    long(lent as u64);
+    column(k);
+    column(m);
+    column(x);
+    long_column(lent as u64);
     text(b":");
+    let shape = Shape::of(k, m);
     let mut cells = marked();
-    look_in(k, m, x, lent, &cells);
+    look_in(shape, x, lent, &cells);
     text(b",");
-    let built: Outcome = build(k, m, &mut cells);
-    look_in(k, m, x, lent, &cells);
+    let built: Outcome = build(shape, &mut cells);
+    look_in(shape, x, lent, &cells);
     text(b"\n");
 }
 
-fn look_in(k: u32, m: u32, x: u32, lent: usize, cells: &[u16]) {
+fn look_in(shape: Shape, x: u32, lent: usize, cells: &[u16]) {
     if cells.len() < lent {
         return;
     }
-    looked_up(look_up(k, m, x, &cells[0..lent]));
+    looked_up(look_up(shape, x, &cells[0..lent]));
 }
 
 fn look_case(c: usize)
@@ -201,17 +175,33 @@ fn look_case(c: usize)
     look(5, 16, x, 32);
 }
 
-fn main() {
+fn builds() {
     for c in 0..48 {
         build_case(c);
     }
+}
+
+fn banks() {
     for c in 0..12 {
         bank_case(c);
     }
+}
+
+fn shows() {
     for c in 0..6 {
         show_case(c);
     }
+}
+
+fn looks() {
     for c in 0..7 {
         look_case(c);
     }
+}
+
+fn main() {
+    builds();
+    banks();
+    shows();
+    looks();
 }

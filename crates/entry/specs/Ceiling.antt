@@ -2,7 +2,8 @@
 use Prim.Native.Nat.{ℕ, _+_, _-_, _^_}
 use mathlib.Core.Bool.{cond}
 use lib.Dec.{leb}
+use Rattle.units.specs.declared.shapes.Shape.{Shape}
 
 -- "Ceilings: for m >= k no best entry's worst error exceeds 2^m + 2^(k-1) parts; for m < k none exceeds 2^k + 2^(m-1) parts."
-unfoldable pub ceiling : ℕ → ℕ → ℕ
-ceiling k m = cond (leb k m) (2 ^ m + 2 ^ (k - 1)) (2 ^ k + 2 ^ (m - 1))
+unfoldable pub ceiling : Shape → ℕ
+ceiling s = cond (leb (s .k) (s .m)) (2 ^ s .m + 2 ^ (s .k - 1)) (2 ^ s .k + 2 ^ (s .m - 1))

@@ -3,18 +3,19 @@ use Prim.Native.Nat.{ℕ, _+_, _*_, _^_, max}
 use mathlib.Core.Bool.{cond}
 use lib.Dec.{ltb}
 use lib.IntN.{ℤ, pos, _-ℤ_, natAbs}
+use Rattle.units.specs.declared.shapes.Shape.{Shape}
 
 -- "Let P = k+m+1." Errors are counted in parts of 2^P
-abbrev pub unit : ℕ → ℕ → ℕ
-unit k m = 2 ^ (k + m + 1)
+abbrev pub unit : Shape → ℕ
+unit s = 2 ^ (s .k + s .m + 1)
 
 -- "Index n runs from 0 to 2^k - 1, and i = 2^k + n. Interval n holds the x with i/2^k <= x < (i+1)/2^k."
-abbrev pub iOf : ℕ → ℕ → ℕ
-iOf k n = 2 ^ k + n
+abbrev pub iOf : Shape → ℕ → ℕ
+iOf s n = 2 ^ s .k + n
 
 -- "An entry is stored as a field f of m bits .. It stands for j/2^(m+1) with j = 2^m + f."
-abbrev pub jOf : ℕ → ℕ → ℕ
-jOf m f = 2 ^ m + f
+abbrev pub jOf : Shape → ℕ → ℕ
+jOf s f = 2 ^ s .m + f
 
 -- Below, u is 2^P, or any whole number.
 
@@ -31,8 +32,8 @@ unfoldable pub worst : ℕ → ℕ → ℕ → ℕ
 worst u i j = max (natAbs (low u i j)) (natAbs (high u i j))
 
 -- "Its side is "left" (0) where high is larger in size, "right" (1) where low is, "both" (2) where they are equal."
-abbrev pub larger : ℕ → ℕ → ℕ
-larger low-size high-size = cond (ltb low-size high-size) 0 (cond (ltb high-size low-size) 1 2)
+abbrev pub sideBySizes : ℕ → ℕ → ℕ
+sideBySizes low-size high-size = cond (ltb low-size high-size) 0 (cond (ltb high-size low-size) 1 2)
 
 unfoldable pub side : ℕ → ℕ → ℕ → ℕ
-side u i j = larger (natAbs (low u i j)) (natAbs (high u i j))
+side u i j = sideBySizes (natAbs (low u i j)) (natAbs (high u i j))

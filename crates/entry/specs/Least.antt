@@ -1,13 +1,11 @@
 -- The least worst error of an interval, over every value that a field can hold. Document 01, "The best entry".
 -- No rounding rule is named here. Assumes nothing.
-use Prim.Native.Nat.{ℕ, zero, suc, _+_, _-_, _^_, min}
+use Prim.Native.Nat.{ℕ, zero, suc, _-_, _^_, min}
 use mathlib.Core.Bool.{Bool}
 use lib.Dec.{eqb}
+use Rattle.units.specs.declared.shapes.Shape.{Shape}
 use Rattle.entry.specs.Errors.{unit, iOf, worst}
-
--- "never above 2^(m+1) - 1, since a field has only m bits"
-unfoldable pub cap : ℕ → ℕ
-cap m = 2 ^ (m + 1) - 1
+use Rattle.entry.specs.Fields.{cap}
 
 -- the least worst error of the values first, first + 1, .., first + more
 unfoldable pub leastOf : ℕ → ℕ → ℕ → ℕ → ℕ
@@ -19,9 +17,9 @@ unfoldable pub least : ℕ → ℕ → ℕ → ℕ → ℕ
 least u i first last = leastOf u i first (last - first)
 
 -- ""Least worst error" means over all j from 2^m to 2^(m+1) - 1."
-abbrev pub leastWorst : ℕ → ℕ → ℕ → ℕ
-leastWorst k m n = least (unit k m) (iOf k n) (2 ^ m) (cap m)
+abbrev pub leastWorst : Shape → ℕ → ℕ
+leastWorst s n = least (unit s) (iOf s n) (2 ^ s .m) (cap s)
 
 -- whether the value j of interval n is best: its worst error is the least
-abbrev pub isBest : ℕ → ℕ → ℕ → ℕ → Bool
-isBest k m n j = eqb (worst (unit k m) (iOf k n) j) (leastWorst k m n)
+abbrev pub isBest : Shape → ℕ → ℕ → Bool
+isBest s n j = eqb (worst (unit s) (iOf s n) j) (leastWorst s n)

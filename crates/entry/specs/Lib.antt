@@ -1,9 +1,9 @@
 pub mod Errors
+pub mod Fields
 pub mod Least
 pub mod Rule
-pub mod Quotient
 pub mod Ceiling
 pub mod Inside
-pub mod Bounds
+pub mod Everywhere
 pub mod Report
-pub mod Wide
+pub mod Inner

@@ -1,14 +1,15 @@
 // The call "Entry error" of document 01.
 ghost use mathlib.Core.Path.{_≡_};
-ghost use Rattle.units.specs.Refusals.{backOf, refusal};
+ghost use Rattle.units.specs.Refusals.{replyOf, refusal};
 ghost use Rattle.entry.specs.Report.{reported, placeTests, entryReport};
+use crate::fields::entry_of;
+use crate::fields::is_wide;
 use crate::measure::Errors;
 use crate::measure::errors_of;
-use crate::numbers::Stored;
-use crate::numbers::read_field;
 use units::Interval;
 use units::Outcome;
 use units::Refusal;
+use units::Shape;
 use units::interval_place;
 use units::widths;
 
@@ -20,21 +21,23 @@ pub enum ErrorAnswer {
 }
 
 // The tests 1, 2, and 4 for n, for every call that takes an interval.
-pub fn placed(k: u32, m: u32, n: Interval) -> Outcome
-    ensures { λ r. ⌜ backOf r ≡ refusal (placeTests k m (n .0)) ⌝ }
+pub fn placed(shape: Shape, n: Interval) -> Outcome
+    ensures { λ r. ⌜ replyOf r ≡ refusal (placeTests shape (n .0)) ⌝ }
 {
-    widths(k, m).then(interval_place(k, n))
+    widths(shape).then(interval_place(shape.k, n))
 }
 
 // "Entry error takes k, m, n, f and gives low, high, worst and side."
-pub fn entry_error(k: u32, m: u32, n: Interval, f: u16) -> ErrorAnswer
-    ensures { λ r. ⌜ reported r ≡ entryReport k m (n .0) f ⌝ }
+pub fn entry_error(shape: Shape, n: Interval, f: u16) -> ErrorAnswer
+    ensures { λ r. ⌜ reported r ≡ entryReport shape (n .0) f ⌝ }
 {
-    match placed(k, m, n) {
+    match placed(shape, n) {
         Outcome::Refused(r) => ErrorAnswer::Refused(r),
-        Outcome::Done => match read_field(m, f) {
-            Stored::TooWide => ErrorAnswer::TooWide(n),
-            Stored::Entry(j) => ErrorAnswer::Done(errors_of(k, m, n, j)),
-        },
+        Outcome::Done => {
+            if is_wide(shape, f) {
+                return ErrorAnswer::TooWide(n);
+            }
+            ErrorAnswer::Done(errors_of(shape, n, entry_of(shape, f)))
+        }
     }
 }

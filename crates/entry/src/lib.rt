@@ -2,6 +2,7 @@
 // best. `entry_error` is a call of document 01; the rest is for the crates above.
 mod call;
 mod choice;
+mod fields;
 mod measure;
 mod numbers;
 mod quotients;
@@ -12,14 +13,15 @@ pub use call::placed;
 pub use choice::best_field;
 pub use choice::is_best;
 pub use choice::least;
+pub use fields::Fields;
+pub use fields::entry_of;
+pub use fields::fields_of;
+pub use fields::is_wide;
 pub use measure::Errors;
 pub use measure::Sizes;
 pub use measure::errors_of;
 pub use measure::sizes_of;
-pub use numbers::Stored;
-pub use numbers::entry_of;
 pub use numbers::left_end;
-pub use numbers::read_field;
 pub use numbers::unit_of;
 pub use quotients::Quotient;
 pub use quotients::quotient_before;

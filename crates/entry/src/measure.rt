@@ -2,13 +2,14 @@ ghost use mathlib.Core.Path.{_≡_};
 ghost use Prim.Native.Nat.{_+_, _*_, _<_, _^_, max};
 ghost use lib.IntN.{pos, _-ℤ_, natAbs};
 ghost use Rattle.units.specs.Sides.{sideNumber};
-ghost use Rattle.entry.specs.Bounds.{With};
-ghost use Rattle.entry.specs.Errors.{unit, iOf, low, high, worst, side, larger};
+ghost use Rattle.entry.specs.Errors.{unit, iOf, low, high, worst, side, sideBySizes};
+ghost use Rattle.entry.specs.Inner.Good.{GoodEntry};
 use crate::numbers::left_end;
 use crate::numbers::unit_of;
 use units::Entry;
 use units::Error;
 use units::Interval;
+use units::Shape;
 use units::Side;
 use units::Worst;
 
@@ -27,7 +28,7 @@ pub struct Sizes {
 }
 
 // 2^(k+m+1), i·j and (i+1)·j: high is unit - left, and low is unit - right.
-struct Ends {
+struct Products {
     unit: u64,
     left: u64,
     right: u64,
@@ -49,19 +50,19 @@ fn difference(a: u64, b: u64) -> Error
 }
 
 // Low and high each have a product of their own, as document 01 writes them.
-fn ends_of(k: u32, m: u32, n: Interval, j: Entry) -> Ends
-    requires { ⌜ With k m (n .0) (j .0) ⌝ }
-    ensures { λ r. ⌜ r ≡ record { unit = unit k m; left = iOf k (n .0) * j .0; right = (iOf k (n .0) + 1) * j .0 } ⌝ }
+fn products_of(shape: Shape, n: Interval, j: Entry) -> Products
+    requires { ⌜ GoodEntry shape (n .0) (j .0) ⌝ }
+    ensures { λ r. ⌜ r ≡ record { unit = unit shape; left = iOf shape (n .0) * j .0; right = (iOf shape (n .0) + 1) * j .0 } ⌝ }
 {
-    let i = left_end(k, n);
-    Ends {
-        unit: unit_of(k, m),
+    let i = left_end(shape, n).0 as u64;
+    Products {
+        unit: unit_of(shape),
         left: i * j.0 as u64,
         right: (i + 1) * j.0 as u64,
     }
 }
 
-impl Ends {
+impl Products {
     fn sizes(self) -> Sizes
         ensures { λ r. ⌜ (r .low .0 ≡ natAbs (pos (self .unit) -ℤ pos (self .right))) × (r .high .0 ≡ natAbs (pos (self .unit) -ℤ pos (self .left))) ⌝ }
     {
@@ -84,7 +85,7 @@ impl Sizes {
 
     // The end at which the larger one is.
     pub fn side(self) -> Side
-        ensures { λ r. ⌜ sideNumber r ≡ larger (self .low .0) (self .high .0) ⌝ }
+        ensures { λ r. ⌜ sideNumber r ≡ sideBySizes (self .low .0) (self .high .0) ⌝ }
     {
         if self.low.0 < self.high.0 {
             return Side::Left;
@@ -97,22 +98,22 @@ impl Sizes {
 }
 
 // The sizes of the errors of the value j over interval n.
-pub fn sizes_of(k: u32, m: u32, n: Interval, j: Entry) -> Sizes
-    requires { ⌜ With k m (n .0) (j .0) ⌝ }
-    ensures { λ r. ⌜ (r .low .0 ≡ natAbs (low (unit k m) (iOf k (n .0)) (j .0))) × (r .high .0 ≡ natAbs (high (unit k m) (iOf k (n .0)) (j .0))) ⌝ }
+pub fn sizes_of(shape: Shape, n: Interval, j: Entry) -> Sizes
+    requires { ⌜ GoodEntry shape (n .0) (j .0) ⌝ }
+    ensures { λ r. ⌜ (r .low .0 ≡ natAbs (low (unit shape) (iOf shape (n .0)) (j .0))) × (r .high .0 ≡ natAbs (high (unit shape) (iOf shape (n .0)) (j .0))) ⌝ }
 {
-    ends_of(k, m, n, j).sizes()
+    products_of(shape, n, j).sizes()
 }
 
 // The errors of the value j over interval n.
-pub fn errors_of(k: u32, m: u32, n: Interval, j: Entry) -> Errors
-    requires { ⌜ With k m (n .0) (j .0) ⌝ }
-    ensures low_is { λ r. ⌜ r .low .0 ≡ low (unit k m) (iOf k (n .0)) (j .0) ⌝ }
-    ensures high_is { λ r. ⌜ r .high .0 ≡ high (unit k m) (iOf k (n .0)) (j .0) ⌝ }
-    ensures worst_is { λ r. ⌜ r .worst .0 ≡ worst (unit k m) (iOf k (n .0)) (j .0) ⌝ }
-    ensures side_is { λ r. ⌜ sideNumber (r .side) ≡ side (unit k m) (iOf k (n .0)) (j .0) ⌝ }
+pub fn errors_of(shape: Shape, n: Interval, j: Entry) -> Errors
+    requires { ⌜ GoodEntry shape (n .0) (j .0) ⌝ }
+    ensures low_is { λ r. ⌜ r .low .0 ≡ low (unit shape) (iOf shape (n .0)) (j .0) ⌝ }
+    ensures high_is { λ r. ⌜ r .high .0 ≡ high (unit shape) (iOf shape (n .0)) (j .0) ⌝ }
+    ensures worst_is { λ r. ⌜ r .worst .0 ≡ worst (unit shape) (iOf shape (n .0)) (j .0) ⌝ }
+    ensures side_is { λ r. ⌜ sideNumber (r .side) ≡ side (unit shape) (iOf shape (n .0)) (j .0) ⌝ }
 {
-    let e = ends_of(k, m, n, j);
+    let e = products_of(shape, n, j);
     let s = e.sizes();
     Errors {
         low: difference(e.unit, e.right),

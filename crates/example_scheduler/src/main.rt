@@ -5,12 +5,14 @@
 ghost use Prim.Native.Nat.{_*_, _≤_};
 ghost use mathlib.Core.Path.{_≡_};
 ghost use lib.Dec.{leb};
-use libc::STDOUT_FILENO;
+use programs::labelled;
+use programs::text;
 use recip::CheckAnswer;
 use recip::Interval;
 use recip::LookupAnswer;
 use recip::Outcome;
 use recip::Refusal;
+use recip::Shape;
 use recip::Side;
 use recip::SurveyAnswer;
 use recip::Worst;
@@ -22,46 +24,34 @@ use recip::survey_table;
 // A family of cards: k bits of the divisor in, m bits of the reciprocal out. Its errors are counted
 // in parts of a whole, 2^(k+m+1).
 struct Card {
-    k: u32,
-    m: u32,
+    shape: Shape,
     whole: u64,
 }
 
 const NARROW: Card = Card {
-    k: 5,
-    m: 5,
+    shape: Shape { k: 5, m: 5 },
     whole: 2048,
 };
 
 const WIDE: Card = Card {
-    k: 6,
-    m: 7,
+    shape: Shape { k: 6, m: 7 },
     whole: 16384,
 };
 
-fn text(s: &[u8]) {
-    io::write_all(STDOUT_FILENO, s);
-}
-
-fn number(label: &[u8], n: u64) {
-    text(label);
-    io::print_decimal(STDOUT_FILENO, n);
-}
-
 // A call that cannot do what was asked says why by a number of document 01, and writes no cell.
 fn refused(r: Refusal) {
-    number(b"refused, number ", r.number() as u64);
+    labelled(b"refused, number ", r.number() as u64);
 }
 
 // Number 5, a field of more than m bits, names its interval besides.
 fn too_wide(n: Interval) {
-    number(b"refused, number 5, interval ", n.0 as u64);
+    labelled(b"refused, number 5, interval ", n.0 as u64);
 }
 
 // 1. The best table of a card's widths, in a buffer that the scheduler lends.
 fn build_for(name: &[u8], card: Card, cells: &mut [u16]) {
     text(name);
-    match build(card.k, card.m, cells) {
+    match build(card.shape, cells) {
         Outcome::Done => text(b"the best table is built"),
         Outcome::Refused(r) => refused(r),
     }
@@ -71,12 +61,12 @@ fn build_for(name: &[u8], card: Card, cells: &mut [u16]) {
 // 2. "The farm may load only tables that pass": of any other, the entry at fault or the refusal.
 fn check_image(name: &[u8], card: Card, image: &[u16]) {
     text(name);
-    match check_table(card.k, card.m, image) {
+    match check_table(card.shape, image) {
         CheckAnswer::Yes => text(b"passes"),
         CheckAnswer::NotBest { n, worst, least } => {
-            number(b"interval ", n.0 as u64);
-            number(b" is at fault, worst ", worst.0);
-            number(b" parts, best possible ", least.0);
+            labelled(b"interval ", n.0 as u64);
+            labelled(b" is at fault, worst ", worst.0);
+            labelled(b" parts, best possible ", least.0);
         }
         CheckAnswer::TooWide(n) => too_wide(n),
         CheckAnswer::Refused(r) => refused(r),
@@ -110,9 +100,9 @@ fn surveyed(name: &[u8], card: Card, answer: SurveyAnswer) {
     text(name);
     match answer {
         SurveyAnswer::Surveyed(f) => {
-            number(b"worst ", f.worst.0);
-            number(b"/", card.whole);
-            number(b" at interval ", f.n.0 as u64);
+            labelled(b"worst ", f.worst.0);
+            labelled(b"/", card.whole);
+            labelled(b" at interval ", f.n.0 as u64);
             let s = f.side;
             side(s);
         }
@@ -158,12 +148,12 @@ fn pick_retry(narrow: SurveyAnswer, wide: SurveyAnswer) {
 
 // 5. What a card starts a division from: the divisor's interval n, and its entry j.
 fn look_up_on(name: &[u8], card: Card, divisor: u32, cells: &[u16]) {
-    number(b"divisor ", divisor as u64);
+    labelled(b"divisor ", divisor as u64);
     text(name);
-    match look_up(card.k, card.m, divisor, cells) {
+    match look_up(card.shape, divisor, cells) {
         LookupAnswer::Found { n, j } => {
-            number(b"n = ", n.0 as u64);
-            number(b", j = ", j.0 as u64);
+            labelled(b"n = ", n.0 as u64);
+            labelled(b", j = ", j.0 as u64);
         }
         LookupAnswer::TooWide(n) => too_wide(n),
         LookupAnswer::Refused(r) => refused(r),
@@ -177,8 +167,8 @@ fn main() {
     build_for(b"narrow cards: ", NARROW, &mut narrow);
     build_for(b"wide cards: ", WIDE, &mut wide);
     check_images(narrow);
-    let of_narrow = survey_table(NARROW.k, NARROW.m, &narrow);
-    let of_wide = survey_table(WIDE.k, WIDE.m, &wide);
+    let of_narrow = survey_table(NARROW.shape, &narrow);
+    let of_wide = survey_table(WIDE.shape, &wide);
     surveyed(b"narrow cards: ", NARROW, of_narrow);
     surveyed(b"wide cards: ", WIDE, of_wide);
     pick_retry(of_narrow, of_wide);

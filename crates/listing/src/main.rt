@@ -1,34 +1,29 @@
 // The listing program: it reads the widths from standard input and writes the best table of those
 // widths, its errors and its survey, or the refusal. What it writes is in `listing_text`, proved byte
-// for byte; here is the order of the calls.
-ghost use Prim.Native.Nat.{_≤_};
+// for byte; here is the order of the calls. `send` alone writes, and lines of that text only.
 ghost use mathlib.Core.Path.{_≡_};
 ghost use lib.ListN.{length};
-ghost use Rattle.survey.specs.Tally.{findingOf};
+ghost use Rattle.survey.specs.Tally.{figuresOf};
 ghost use Rattle.units.specs.Refusals.{refusalNumber};
-ghost use Rattle.listing_text.specs.Line.{lineRead, widths};
-ghost use Rattle.listing_text.specs.Text.{refusedLine};
-ghost use Rattle.listing_text.specs.Listing.{Listed, listing, tableText};
+ghost use Rattle.listing_line.specs.Line.{lineRead, widths};
+ghost use Rattle.listing_text.specs.Inner.Pages.{Listed, IsPart};
+ghost use Rattle.listing_text.specs.Listing.{refusedText, tableText, textFor};
 use libc::STDIN_FILENO;
 use libc::STDOUT_FILENO;
-use listing_text::Reading;
+use listing_line::Reading;
+use listing_line::read_line;
+use listing_text::LINE_MOST;
 use listing_text::fill_page;
+use listing_text::line_count;
 use listing_text::put_refused;
-use listing_text::read_line;
+use programs::zeroed;
 use recip::Finding;
 use recip::Outcome;
 use recip::Refusal;
+use recip::Shape;
 use recip::SurveyAnswer;
 use recip::build;
 use recip::survey_table;
-use units::power;
-
-// "It keeps one table of 32,768 cells, zeroed at the start."
-fn zeroed() -> [u16; 32768]
-    ensures { λ r. ⌜ 32768 ≡ length r ⌝ }
-{
-    [0; 32768]
-}
 
 // A page of the text. (15,15), the longest listing, has 1,365,836 bytes and takes eleven of them.
 fn blank() -> [u8; 131072]
@@ -40,45 +35,58 @@ fn blank() -> [u8; 131072]
 // Below, `input` is lent for the contracts alone: each function is given what the text for this input
 // asks for.
 
-fn refuse(input: &[u8], r: Refusal)
-    requires { ⌜ refusedLine (refusalNumber r) ≡ listing (now input) ⌝ }
+// Writes the lines of the text from line `from` up to line `next`. The numbers, too, are given for the
+// contract alone.
+fn send(input: &[u8], from: u32, next: u32, bytes: &[u8]) -> bool
+    requires { ⌜ IsPart (textFor (now input)) from next (now bytes) ⌝ }
 {
-    let mut page = [0u8; 134];
+    io::write_all(STDOUT_FILENO, bytes)
+}
+
+fn refuse(input: &[u8], r: Refusal)
+    requires { ⌜ refusedText (refusalNumber r) ≡ textFor (now input) ⌝ }
+{
+    let mut page = [0u8; LINE_MOST];
     let end = put_refused(&mut page, 0, r);
-    io::write_all(STDOUT_FILENO, &page[..end]);
+    send(input, 0, 1, &page[..end]);
 }
 
 // Writes the text a page at a time. It stops where a write fails.
-fn write_text(input: &[u8], k: u32, m: u32, table: &[u16], worst: Finding)
-    requires { ⌜ (tableText k m ≡ listing (now input)) × (Listed k m (now table) (findingOf worst)) ⌝ }
+fn write_text(input: &[u8], shape: Shape, table: &[u16], worst: Finding)
+    requires { ⌜ (tableText shape ≡ textFor (now input)) × (Listed shape (now table) (figuresOf worst)) ⌝ }
 {
     let mut space = blank();
     let page: &mut [u8] = &mut space;
-    let lines = power(k) as u32 + 2;
+    let lines = line_count(shape.k);
     let mut next: u32 = 0;
     while next < lines {
-        let filled = fill_page(page, k, m, table, worst, next);
+        let filled = fill_page(page, shape, table, worst, next);
         let end = filled.end;
-        if !io::write_all(STDOUT_FILENO, &page[0..end]) {
+        if !send(input, next, filled.next, &page[..end]) {
             return;
         }
         next = filled.next;
     }
 }
 
-fn list(input: &[u8], k: u32, m: u32)
-    requires { ⌜ lineRead (now input) ≡ widths k m ⌝ }
+// Called where no input leads, which its callers prove: it requires what never holds. The survey of a
+// table that was built is never refused (`built-survey-done`).
+fn never()
+    requires { ⌜ ⊥ ⌝ }
+{}
+
+fn list(input: &[u8], shape: Shape)
+    requires { ⌜ lineRead (now input) ≡ widths shape ⌝ }
 {
     let mut cells = zeroed();
     let table: &mut [u16] = &mut cells;
-    match build(k, m, table) {
+    match build(shape, table) {
         Outcome::Refused(r) => refuse(input, r),
-        Outcome::Done => {
-            // The survey of a table that was built is never refused (`built-survey-done`).
-            if let SurveyAnswer::Surveyed(worst) = survey_table(k, m, table) {
-                write_text(input, k, m, table, worst);
-            }
-        }
+        Outcome::Done => match survey_table(shape, table) {
+            SurveyAnswer::Surveyed(worst) => write_text(input, shape, table, worst),
+            SurveyAnswer::TooWide(_) => never(),
+            SurveyAnswer::Refused(_) => never(),
+        },
     }
 }
 
@@ -89,7 +97,7 @@ fn main() {
     let got = io::read_full(STDIN_FILENO, &mut input);
     let line = &input[..got];
     match read_line(line) {
-        Reading::Widths { k, m } => list(line, k, m),
+        Reading::Widths(shape) => list(line, shape),
         Reading::Refused(r) => refuse(line, r),
     }
 }

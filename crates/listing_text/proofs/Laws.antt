@@ -1,6 +1,3 @@
-pub mod Line
-pub mod Grammar
-pub mod Report
 pub mod Put
 pub mod Spelled
 pub mod Decimal

@@ -1,62 +1,62 @@
 -- The whole text of a listing. Document 01, "The listing". Assumes nothing.
-use Prim.Native.Nat.{ℕ, zero, suc, _+_, _-_, _^_, _≤_, _<_}
-use mathlib.Core.Path.{_≡_}
+use Prim.Native.Nat.{ℕ, zero, suc, _+_, _-_, _^_}
 use mathlib.Core.Bool.{cond}
 use mathlib.Core.List.{List, [], _++_}
 use lib.Dec.{ltb, eqb}
-use lib.ListN.{length, take, getD}
-use Rattle.units.specs.Refusals.{Back, answer, tableTests}
+use Rattle.units.specs.Refusals.{Reply, answer, tableTests}
+use Rattle.units.specs.declared.shapes.Shape.{Shape}
 use Rattle.entry.specs.Rule.{ruleField}
 use Rattle.table.specs.Build.{rows}
-use Rattle.survey.specs.Finding.{Found, fresh, found}
+use Rattle.survey.specs.Finding.{Figures, fresh, findingOver}
 use Rattle.listing_text.specs.Text.{firstLine, entryLine, lastLine, refusedLine}
-use Rattle.listing_text.specs.Line.{Line, lineRead}
+use Rattle.listing_line.specs.Line.{Line, lineRead}
 
 -- the survey of the best table
-abbrev pub bestFound : ℕ → ℕ → Found
-bestFound k m = found k m 0 (rows k m 0 (2 ^ k)) fresh
+abbrev pub bestFigures : Shape → Figures
+bestFigures s = findingOver s 0 (rows (ruleField s) 0 (2 ^ s .k)) fresh
 
 -- line t: the first, then one for each entry of the best table, then the last
-unfoldable pub lineOf : ℕ → ℕ → ℕ → List ℕ
-lineOf k m zero = firstLine k m
-lineOf k m (suc n) = cond (ltb n (2 ^ k)) (entryLine k m n (ruleField k m n)) (lastLine (bestFound k m))
+unfoldable pub lineOf : Shape → ℕ → List ℕ
+lineOf s zero = firstLine s
+lineOf s (suc n) = cond (ltb n (2 ^ s .k)) (entryLine s n (ruleField s n)) (lastLine (bestFigures s))
+
+-- a text by its lines: how many it has, and each of them
+pub record Lines : Type 0 where
+  pub count : ℕ
+  pub line : ℕ → List ℕ
 
 -- some lines, from line t on
-unfoldable pub linesFrom : ℕ → ℕ → ℕ → ℕ → List ℕ
-linesFrom k m t zero = []
-linesFrom k m t (suc count) = lineOf k m t ++ linesFrom k m (suc t) count
+unfoldable pub linesFrom : (ℕ → List ℕ) → ℕ → ℕ → List ℕ
+linesFrom line t zero = []
+linesFrom line t (suc count) = line t ++ linesFrom line (suc t) count
+
+-- the lines of a text from line `from` up to line `next`
+abbrev pub part : Lines → ℕ → ℕ → List ℕ
+part text from next = linesFrom (text .line) from (next - from)
 
 -- a first line, 2^k entries and a last line
 abbrev pub lineCount : ℕ → ℕ
 lineCount k = 2 ^ k + 2
 
--- the whole text of the listing for widths from 1 to 15
-abbrev pub tableText : ℕ → ℕ → List ℕ
-tableText k m = linesFrom k m 0 (lineCount k)
+-- the text of the listing for widths from 1 to 15
+abbrev pub tableText : Shape → Lines
+tableText s = record { count = lineCount (s .k); line = lineOf s }
+
+-- "A refusal is the single line "refused" with its number."
+abbrev pub refusedText : ℕ → Lines
+refusedText number = record { count = 1; line = λ t. refusedLine number }
 
 -- "It keeps one table of 32,768 cells": the text for two widths, or that of their refusal
-abbrev pub widthsText : ℕ → ℕ → List ℕ
-widthsText k m = answer (λ (b : Back). refusedLine (b .number)) (tableText k m) (tableTests k m 32768)
+abbrev pub widthsText : Shape → Lines
+widthsText s = answer (λ (b : Reply). refusedText (b .number)) (tableText s) (tableTests s 32768)
 
--- the text for an input. "In the listing 7 comes before all others."
-unfoldable pub textOf : Line → List ℕ
-textOf l = cond (eqb (l .number) 0) (widthsText (l .k) (l .m)) (refusedLine (l .number))
+-- the text for what was read. "In the listing 7 comes before all others."
+unfoldable pub textOf : Line → Lines
+textOf l = cond (eqb (l .number) 0) (widthsText (l .shape)) (refusedText (l .number))
+
+-- the text for an input: by its lines, and whole
+abbrev pub textFor : List ℕ → Lines
+textFor input = textOf (lineRead input)
 
 abbrev pub listing : List ℕ → List ℕ
-listing input = textOf (lineRead input)
-
--- what is listed: the best table, and its survey
-pub record Listed (k m : ℕ) (cells : List ℕ) (worst : Found) : Type 0 where
-  pub narrow-in : k ≤ 15
-  pub narrow-out : m ≤ 15
-  pub lent : 2 ^ k ≤ length cells
-  pub fields : (n : ℕ) → n < 2 ^ k → getD cells n 0 ≡ ruleField k m n
-  pub surveyed : worst ≡ bestFound k m
-
--- a page that holds the lines from `from` up to `next`, in order, in its bytes up to `end`: one at least, if there is one
-pub record Paged (k m from : ℕ) (page : List ℕ) (next end : ℕ) : Type 0 where
-  pub inside : end ≤ length page
-  pub onward : from ≤ next
-  pub within : next ≤ lineCount k
-  pub further : from < lineCount k → from < next
-  pub text-is : take end page ≡ linesFrom k m from (next - from)
+listing input = part (textFor input) 0 (textFor input .count)

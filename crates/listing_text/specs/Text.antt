@@ -1,15 +1,14 @@
 -- The lines of the listing. Document 01, "The listing". A text is a list of ASCII codes. Assumes nothing.
-use Prim.Native.Nat.{ℕ, zero, suc, _+_, _/_}
-use mathlib.Core.Path.{_≡_}
+use Prim.Native.Nat.{ℕ, zero, suc, _/_}
 use mathlib.Core.Bool.{cond}
 use mathlib.Core.List.{List, [], _∷_, _++_}
 use lib.Dec.{ltb}
 use lib.IntN.{ℤ, pos, natAbs}
-use lib.ListN.{length, take}
 use lib.Signed.{ltZ}
 use Rattle.io.specs.Digits.{digits}
+use Rattle.units.specs.declared.shapes.Shape.{Shape}
 use Rattle.entry.specs.Errors.{unit, iOf, jOf, low, high, worst, side}
-use Rattle.survey.specs.Finding.{Found}
+use Rattle.survey.specs.Finding.{Figures}
 
 -- how many decimal digits n has, for an n of at most `most` of them
 unfoldable pub places : ℕ → ℕ → ℕ
@@ -41,34 +40,28 @@ sideEnd (suc zero) = 32 ∷ 114 ∷ 105 ∷ 103 ∷ 104 ∷ 116 ∷ 10 ∷ []
 sideEnd (suc (suc _)) = 32 ∷ 98 ∷ 111 ∷ 116 ∷ 104 ∷ 10 ∷ []
 
 -- "First line: widths and 2^P": "k=1 m=2 unit=16"
-abbrev pub firstLine : ℕ → ℕ → List ℕ
-firstLine k m =
-    field (107 ∷ 61 ∷ []) k ++ field (32 ∷ 109 ∷ 61 ∷ []) m ++ field (32 ∷ 117 ∷ 110 ∷ 105 ∷ 116 ∷ 61 ∷ []) (unit k m) ++ newline
+abbrev pub firstLine : Shape → List ℕ
+firstLine s =
+    field (107 ∷ 61 ∷ []) (s .k) ++ field (32 ∷ 109 ∷ 61 ∷ []) (s .m) ++ field (32 ∷ 117 ∷ 110 ∷ 105 ∷ 116 ∷ 61 ∷ []) (unit s) ++ newline
 
 -- "Then per entry: n, i, j, low, high, worst, side": "0 2 6 -2 4 4 left"
-abbrev pub entryNumbers : ℕ → ℕ → ℕ → List ℕ
-entryNumbers n i j = field [] n ++ field space i ++ field space j
+abbrev pub entryStart : ℕ → ℕ → ℕ → List ℕ
+entryStart n i j = field [] n ++ field space i ++ field space j
 
-abbrev pub entryErrors : ℤ → ℤ → ℕ → ℕ → List ℕ
-entryErrors low high worst side = signed low ++ signed high ++ field space worst ++ sideEnd side
+abbrev pub errorsEnd : ℤ → ℤ → ℕ → ℕ → List ℕ
+errorsEnd low high worst side = signed low ++ signed high ++ field space worst ++ sideEnd side
 
-abbrev pub entryLine : ℕ → ℕ → ℕ → ℕ → List ℕ
-entryLine k m n f =
-    let u : ℕ = unit k m in
-    let i : ℕ = iOf k n in
-    let j : ℕ = jOf m f in
-    entryNumbers n i j ++ entryErrors (low u i j) (high u i j) (worst u i j) (side u i j)
+abbrev pub entryLine : Shape → ℕ → ℕ → List ℕ
+entryLine s n f =
+    let u : ℕ = unit s in
+    let i : ℕ = iOf s n in
+    let j : ℕ = jOf s f in
+    entryStart n i j ++ errorsEnd (low u i j) (high u i j) (worst u i j) (side u i j)
 
 -- "Last: survey's worst, its n, its side": "worst 4 0 left"
-abbrev pub lastLine : Found → List ℕ
+abbrev pub lastLine : Figures → List ℕ
 lastLine f = field (119 ∷ 111 ∷ 114 ∷ 115 ∷ 116 ∷ 32 ∷ []) (f .worst) ++ field space (f .n) ++ sideEnd (f .side)
 
 -- "A refusal is the single line "refused" with its number"
 abbrev pub refusedLine : ℕ → List ℕ
 refusedLine r = field (114 ∷ 101 ∷ 102 ∷ 117 ∷ 115 ∷ 101 ∷ 100 ∷ 32 ∷ []) r ++ newline
-
--- the page `after` has what `before` had up to `at`, then the text, up to `end`
-pub record Put (text before : List ℕ) (at : ℕ) (after : List ℕ) (end : ℕ) : Type 0 where
-  pub size : length after ≡ length before
-  pub end-is : end ≡ at + length text
-  pub text-is : take end after ≡ take at before ++ text

@@ -3,7 +3,7 @@ ghost use mathlib.Core.Path.{_≡_};
 ghost use Prim.Native.Nat.{_+_, _≤_};
 ghost use lib.ListN.{length};
 ghost use Rattle.io.specs.Digits.{digits};
-ghost use Rattle.listing_text.specs.Text.{Put};
+ghost use Rattle.listing_text.specs.Inner.Pages.{Put};
 ghost use Rattle.listing_text.specs.Text.{places as Text·places};
 
 // How many digits n has. Four are passed at a time while there are more, for the price of one
@@ -33,7 +33,7 @@ pub fn places(n: u64) -> usize
 // after them. They are put from the last to the first: division by ten gives the last one.
 pub fn put_digits(page: &mut [u8], at: usize, n: u64, count: usize) -> usize
     requires { ⌜ at + count ≤ length (now page) ⌝ }
-    ensures { λ r. ⌜ Put (digits 10 count n) (now (page .entry)) at (now (page .exit)) r ⌝ }
+    ensures { λ r. ⌜ Put (digits 10 count n) count (now (page .entry)) at (now (page .exit)) r ⌝ }
 {
     let mut rest = n;
     let mut left = count;

@@ -1,12 +1,11 @@
-// The listing's input line and its text, byte for byte.
+// The listing's text, byte for byte.
 mod digits;
 mod fields;
-mod line;
 mod lines;
 mod pages;
 
-pub use line::Reading;
-pub use line::read_line;
+pub use lines::LINE_MOST;
 pub use lines::put_refused;
 pub use pages::Filled;
 pub use pages::fill_page;
+pub use pages::line_count;

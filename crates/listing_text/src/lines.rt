@@ -1,13 +1,14 @@
 // The lines of the listing.
-ghost use mathlib.Core.Path.{_≡_};
 ghost use Prim.Native.Nat.{_+_, _≤_};
 ghost use lib.ListN.{length};
 ghost use Rattle.units.specs.Sides.{sideNumber};
 ghost use Rattle.units.specs.Refusals.{refusalNumber};
-ghost use Rattle.entry.specs.Bounds.{With};
-ghost use Rattle.entry.specs.Errors.{iOf, jOf};
-ghost use Rattle.survey.specs.Tally.{findingOf};
-ghost use Rattle.listing_text.specs.Text.{Put, sideEnd, entryNumbers, entryErrors, firstLine, entryLine, lastLine, refusedLine};
+ghost use Rattle.units.specs.Inner.Good.{GoodWidths};
+ghost use Rattle.entry.specs.Inner.Good.{GoodEntry};
+ghost use Rattle.entry.specs.Errors.{jOf};
+ghost use Rattle.survey.specs.Tally.{figuresOf};
+ghost use Rattle.listing_text.specs.Text.{sideEnd, entryStart, errorsEnd, firstLine, entryLine, lastLine, refusedLine};
+ghost use Rattle.listing_text.specs.Inner.Pages.{Put, lineMost};
 use crate::fields::put;
 use crate::fields::put_error;
 use crate::fields::put_field;
@@ -19,14 +20,18 @@ use entry::unit_of;
 use survey::Finding;
 use units::Entry;
 use units::Interval;
+use units::LeftEnd;
 use units::Refusal;
+use units::Shape;
 use units::Side;
+
+// The most bytes that a line has.
+pub const LINE_MOST: usize = 134;
 
 // " left", " right" or " both", and the end of the line.
 fn put_side(page: &mut [u8], at: usize, s: Side) -> usize
     requires { ⌜ at + 7 ≤ length (now page) ⌝ }
-    ensures { λ r. ⌜ Put (sideEnd (sideNumber s)) (now (page .entry)) at (now (page .exit)) r ⌝ }
-    ensures room { λ r. ⌜ r ≤ at + 7 ⌝ }
+    ensures { λ r. ⌜ Put (sideEnd (sideNumber s)) 7 (now (page .entry)) at (now (page .exit)) r ⌝ }
 {
     match s {
         Side::Left => put(page, at, b" left\n"),
@@ -36,21 +41,19 @@ fn put_side(page: &mut [u8], at: usize, s: Side) -> usize
 }
 
 // "n, i, j".
-fn put_numbers(page: &mut [u8], at: usize, n: Interval, i: u64, j: Entry) -> usize
+fn put_numbers(page: &mut [u8], at: usize, n: Interval, i: LeftEnd, j: Entry) -> usize
     requires { ⌜ at + 62 ≤ length (now page) ⌝ }
-    ensures { λ r. ⌜ Put (entryNumbers (n .0) i (j .0)) (now (page .entry)) at (now (page .exit)) r ⌝ }
-    ensures room { λ r. ⌜ r ≤ at + 62 ⌝ }
+    ensures { λ r. ⌜ Put (entryStart (n .0) (i .0) (j .0)) 62 (now (page .entry)) at (now (page .exit)) r ⌝ }
 {
     let n_end = put_field(page, at, b"", n.0 as u64);
-    let i_end = put_field(page, n_end, b" ", i);
+    let i_end = put_field(page, n_end, b" ", i.0 as u64);
     put_field(page, i_end, b" ", j.0 as u64)
 }
 
 // "low, high, worst, side", and the end of the line.
 fn put_errors(page: &mut [u8], at: usize, e: Errors) -> usize
     requires { ⌜ at + 72 ≤ length (now page) ⌝ }
-    ensures { λ r. ⌜ Put (entryErrors (e .low .0) (e .high .0) (e .worst .0) (sideNumber (e .side))) (now (page .entry)) at (now (page .exit)) r ⌝ }
-    ensures room { λ r. ⌜ r ≤ at + 72 ⌝ }
+    ensures { λ r. ⌜ Put (errorsEnd (e .low .0) (e .high .0) (e .worst .0) (sideNumber (e .side))) 72 (now (page .entry)) at (now (page .exit)) r ⌝ }
 {
     let low_end = put_error(page, at, e.low);
     let high_end = put_error(page, low_end, e.high);
@@ -60,33 +63,30 @@ fn put_errors(page: &mut [u8], at: usize, e: Errors) -> usize
 }
 
 // "First line: widths and 2^P."
-pub fn put_first(page: &mut [u8], at: usize, k: u32, m: u32) -> usize
-    requires { ⌜ (k ≤ 15) × ((m ≤ 15) × (at + 134 ≤ length (now page))) ⌝ }
-    ensures { λ r. ⌜ Put (firstLine k m) (now (page .entry)) at (now (page .exit)) r ⌝ }
-    ensures room { λ r. ⌜ r ≤ at + 134 ⌝ }
+pub fn put_first(page: &mut [u8], at: usize, shape: Shape) -> usize
+    requires { ⌜ (GoodWidths shape) × (at + lineMost ≤ length (now page)) ⌝ }
+    ensures { λ r. ⌜ Put (firstLine shape) lineMost (now (page .entry)) at (now (page .exit)) r ⌝ }
 {
-    let k_end = put_field(page, at, b"k=", k as u64);
-    let m_end = put_field(page, k_end, b" m=", m as u64);
-    let unit_end = put_field(page, m_end, b" unit=", unit_of(k, m));
+    let k_end = put_field(page, at, b"k=", shape.k as u64);
+    let m_end = put_field(page, k_end, b" m=", shape.m as u64);
+    let unit_end = put_field(page, m_end, b" unit=", unit_of(shape));
     put(page, unit_end, b"\n")
 }
 
 // "Then per entry: n, i, j, low, high, worst, side."
-pub fn put_entry(page: &mut [u8], at: usize, k: u32, m: u32, n: Interval, f: u16) -> usize
-    requires { ⌜ (With k m (n .0) (jOf m f)) × (at + 134 ≤ length (now page)) ⌝ }
-    ensures { λ r. ⌜ Put (entryLine k m (n .0) f) (now (page .entry)) at (now (page .exit)) r ⌝ }
-    ensures room { λ r. ⌜ r ≤ at + 134 ⌝ }
+pub fn put_entry(page: &mut [u8], at: usize, shape: Shape, n: Interval, f: u16) -> usize
+    requires { ⌜ (GoodEntry shape (n .0) (jOf shape f)) × (at + lineMost ≤ length (now page)) ⌝ }
+    ensures { λ r. ⌜ Put (entryLine shape (n .0) f) lineMost (now (page .entry)) at (now (page .exit)) r ⌝ }
 {
-    let j = entry_of(m, f);
-    let numbers_end = put_numbers(page, at, n, left_end(k, n), j);
-    put_errors(page, numbers_end, errors_of(k, m, n, j))
+    let j = entry_of(shape, f);
+    let numbers_end = put_numbers(page, at, n, left_end(shape, n), j);
+    put_errors(page, numbers_end, errors_of(shape, n, j))
 }
 
 // "Last: survey's worst, its n, its side."
 pub fn put_last(page: &mut [u8], at: usize, f: Finding) -> usize
-    requires { ⌜ at + 134 ≤ length (now page) ⌝ }
-    ensures { λ r. ⌜ Put (lastLine (findingOf f)) (now (page .entry)) at (now (page .exit)) r ⌝ }
-    ensures room { λ r. ⌜ r ≤ at + 134 ⌝ }
+    requires { ⌜ at + lineMost ≤ length (now page) ⌝ }
+    ensures { λ r. ⌜ Put (lastLine (figuresOf f)) lineMost (now (page .entry)) at (now (page .exit)) r ⌝ }
 {
     let worst_end = put_field(page, at, b"worst ", f.worst.0);
     let n_end = put_field(page, worst_end, b" ", f.n.0 as u64);
@@ -96,9 +96,8 @@ pub fn put_last(page: &mut [u8], at: usize, f: Finding) -> usize
 
 // "A refusal is the single line "refused" with its number."
 pub fn put_refused(page: &mut [u8], at: usize, r: Refusal) -> usize
-    requires { ⌜ at + 134 ≤ length (now page) ⌝ }
-    ensures { λ e. ⌜ Put (refusedLine (refusalNumber r)) (now (page .entry)) at (now (page .exit)) e ⌝ }
-    ensures room { λ e. ⌜ e ≤ at + 134 ⌝ }
+    requires { ⌜ at + lineMost ≤ length (now page) ⌝ }
+    ensures { λ e. ⌜ Put (refusedLine (refusalNumber r)) lineMost (now (page .entry)) at (now (page .exit)) e ⌝ }
 {
     let number_end = put_field(page, at, b"refused ", r.number() as u64);
     put(page, number_end, b"\n")

@@ -9,6 +9,7 @@ pub use units::Error;
 pub use units::Interval;
 pub use units::Outcome;
 pub use units::Refusal;
+pub use units::Shape;
 pub use units::Side;
 pub use units::Worst;
 

@@ -1,8 +1,10 @@
 pub mod Scan
-pub mod BankOf
+pub mod Good
+pub mod Shown
 pub mod Largest
 pub mod Join
 pub mod Tallied
 pub mod Past
+pub mod Reported
 pub mod Report
 pub mod TallyReport

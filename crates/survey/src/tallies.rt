@@ -1,19 +1,19 @@
 // "A running tally takes one entry at a time and is handed back."
 ghost use mathlib.Core.Path.{_≡_};
 ghost use Rattle.entry.specs.Errors.{jOf};
-ghost use Rattle.entry.specs.Bounds.{With};
-ghost use Rattle.survey.specs.Finding.{sizesFound, larger};
-ghost use Rattle.survey.specs.Tally.{findingOf, stateOf, started, talliedAt, reported, tallyReport};
-use entry::Sizes;
+ghost use Rattle.entry.specs.Inner.Good.{GoodEntry};
+ghost use Rattle.survey.specs.Finding.{entryFigures, orLarger};
+ghost use Rattle.survey.specs.Tally.{figuresOf, stateOf, started, talliedAt, reported, tallyReport};
 use entry::entry_of;
+use entry::is_wide;
 use entry::placed;
 use entry::sizes_of;
 use units::Interval;
 use units::Outcome;
 use units::Refusal;
+use units::Shape;
 use units::Side;
 use units::Worst;
-use units::reaches;
 
 // The largest worst error so far, the smallest n that has it, and that entry's side.
 pub struct Finding {
@@ -22,10 +22,9 @@ pub struct Finding {
     pub side: Side,
 }
 
-// The survey's state: the widths, the next n and the finding so far. Its fields may hold anything.
+// The survey's state: the shape, the next n and the finding so far. Its fields may hold anything.
 pub struct Tally {
-    pub k: u32,
-    pub m: u32,
+    pub shape: Shape,
     pub next: Interval,
     pub finding: Finding,
 }
@@ -38,11 +37,13 @@ pub enum TallyAnswer {
 }
 
 impl Finding {
-    // "An entry replaces the finding only where its worst is larger": the entry of interval n, with
-    // errors of these sizes.
-    fn or_larger(self, n: Interval, sizes: Sizes) -> Finding
-        ensures { λ r. ⌜ findingOf r ≡ larger (findingOf self) (sizesFound (n .0) (sizes .low .0) (sizes .high .0)) ⌝ }
+    // "An entry replaces the finding only where its worst is larger": the field f of interval n. Its
+    // side is worked out only where it does.
+    fn or_larger(self, shape: Shape, n: Interval, f: u16) -> Finding
+        requires { ⌜ GoodEntry shape (n .0) (jOf shape f) ⌝ }
+        ensures { λ r. ⌜ figuresOf r ≡ orLarger (figuresOf self) (entryFigures shape (n .0) f) ⌝ }
     {
+        let sizes = sizes_of(shape, n, entry_of(shape, f));
         let worst = sizes.worst();
         if self.worst.0 < worst.0 {
             return Finding {
@@ -58,12 +59,11 @@ impl Finding {
 impl Tally {
     // "A fresh one is given the widths and the first n; its finding is worst 0, n 0, side 0, and
     // starting is never refused."
-    pub fn start(k: u32, m: u32, first: Interval) -> Tally
-        ensures { λ r. ⌜ stateOf r ≡ started k m (first .0) ⌝ }
+    pub fn start(shape: Shape, first: Interval) -> Tally
+        ensures { λ r. ⌜ stateOf r ≡ started shape (first .0) ⌝ }
     {
         Tally {
-            k: k,
-            m: m,
+            shape: shape,
             next: first,
             finding: Finding {
                 worst: Worst(0),
@@ -76,15 +76,15 @@ impl Tally {
     // A method with self takes n and f and returns the next tally. It has no tests of its own, so no
     // other crate can call it.
     pub(crate) fn add(self, n: Interval, f: u16) -> Tally
-        requires { ⌜ With (self .k) (self .m) (n .0) (jOf (self .m) f) ⌝ }
+        requires { ⌜ GoodEntry (self .shape) (n .0) (jOf (self .shape) f) ⌝ }
         ensures { λ r. ⌜ stateOf r ≡ talliedAt (stateOf self) (n .0) f ⌝ }
     {
+        let shape = self.shape;
         let old = self.finding;
         Tally {
-            k: self.k,
-            m: self.m,
+            shape: shape,
             next: Interval(n.0 + 1),
-            finding: old.or_larger(n, sizes_of(self.k, self.m, n, entry_of(self.m, f))),
+            finding: old.or_larger(shape, n, f),
         }
     }
 
@@ -92,11 +92,12 @@ impl Tally {
     pub fn take(self, f: u16) -> TallyAnswer
         ensures { λ r. ⌜ reported r ≡ tallyReport (stateOf self) f ⌝ }
     {
+        let shape = self.shape;
         let n = self.next;
-        match placed(self.k, self.m, n) {
+        match placed(shape, n) {
             Outcome::Refused(r) => TallyAnswer::Refused(r, self),
             Outcome::Done => {
-                if reaches(self.m, f as u64) {
+                if is_wide(shape, f) {
                     return TallyAnswer::TooWide(n, self);
                 }
                 TallyAnswer::Taken(self.add(n, f))

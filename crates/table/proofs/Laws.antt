@@ -1,8 +1,12 @@
 pub mod Rows
+pub mod Filling
 pub mod Banks
+pub mod Good
 pub mod Whole
+pub mod Past
 pub mod Built
 pub mod AnyOrder
 pub mod Shown
+pub mod Wide
 pub mod Lookup
 pub mod Report

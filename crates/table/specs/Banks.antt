@@ -1,8 +1,8 @@
 -- A bank is a stretch of a table. Document 01, "The calls". A table is the list of its cells. Assumes nothing.
 use Prim.Native.Nat.{ℕ, _-_, _*_, _^_}
-use mathlib.Core.List.{List, [], _∷_}
+use mathlib.Core.List.{List, [], _∷_, _++_}
 use lib.ListN.{length, take, drop}
-use Rattle.units.specs.Refusals.{Back, Test, answer, inputWidth, bankHeight, bankNumber, fewCells}
+use Rattle.units.specs.Refusals.{Reply, Test, answer, inputWidth, bankHeight, bankNumber, fewCells}
 
 -- "bank b (0 to 2^h - 1) is the 2^(k-h) entries from b·2^(k-h) on"
 abbrev pub bankSize : ℕ → ℕ → ℕ
@@ -14,9 +14,13 @@ bankStart k h b = b * bankSize k h
 abbrev pub bankOf : ℕ → ℕ → ℕ → List ℕ → List ℕ
 bankOf k h b cells = take (bankSize k h) (drop (bankStart k h b) cells)
 
--- 4 for h and b, then 3
+-- 4 for h and b
+abbrev pub bankName : ℕ → ℕ → ℕ → List Test
+bankName k h b = bankHeight k h ∷ bankNumber h b ∷ []
+
+-- and after them 3
 abbrev pub bankPlace : ℕ → ℕ → ℕ → ℕ → List Test
-bankPlace k h b lent = bankHeight k h ∷ bankNumber h b ∷ fewCells lent (2 ^ k) ∷ []
+bankPlace k h b lent = bankName k h b ++ (fewCells lent (2 ^ k) ∷ [])
 
 -- "Show a bank .. takes k, h, b and the table": 1, 4 for h and b, 3
 abbrev pub viewTests : ℕ → ℕ → ℕ → ℕ → List Test
@@ -24,4 +28,4 @@ viewTests k h b lent = inputWidth k ∷ bankPlace k h b lent
 
 -- "hands the caller that stretch of the lent table itself .. an empty stretch means refusal"
 abbrev pub shown : ℕ → ℕ → ℕ → List ℕ → List ℕ
-shown k h b cells = answer (λ (_ : Back). []) (bankOf k h b cells) (viewTests k h b (length cells))
+shown k h b cells = answer (λ (_ : Reply). []) (bankOf k h b cells) (viewTests k h b (length cells))

@@ -1,3 +1,5 @@
 pub mod Banks
 pub mod Build
+pub mod Wide
 pub mod Lookup
+pub mod Inner

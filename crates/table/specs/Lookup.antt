@@ -2,8 +2,10 @@
 use Prim.Native.Nat.{ℕ, _-_, _/_, _^_}
 use mathlib.Core.List.{List, [], _∷_, _++_}
 use lib.ListN.{length, getD}
-use Rattle.units.specs.Refusals.{Back, back, Test, answer, refusalNumber, tableTests, divisor, tooWide}
+use Rattle.units.specs.Refusals.{Reply, reply, Test, answer, refusalNumber, tableTests, divisor}
+use Rattle.units.specs.declared.shapes.Shape.{Shape}
 use Rattle.entry.specs.Errors.{jOf}
+use Rattle.entry.specs.Fields.{tooWide}
 use Rattle.table.specs.declared.lookups.LookupAnswer.{LookupAnswer}
 use Rattle.table.specs.declared.lookups.LookupAnswer.the-variants.{Found, TooWide, Refused}
 
@@ -13,29 +15,31 @@ pub record Report : Type 0 where
   pub n : ℕ
   pub j : ℕ
 
-abbrev pub refused : Back → Report
+abbrev pub refused : Reply → Report
 refused b = record { number = b .number; n = b .n; j = 0 }
 
-abbrev pub found : ℕ → ℕ → Report
-found n j = record { number = 0; n = n; j = j }
+abbrev pub lookedUp : ℕ → ℕ → Report
+lookedUp n j = record { number = 0; n = n; j = j }
 
 -- what each case of the answer says in document 01's numbers
 abbrev pub reported : LookupAnswer → Report
-reported (Found n j) = found (n .0) (j .0)
-reported (TooWide n) = refused (back 5 (n .0))
-reported (Refused r) = refused (back (refusalNumber r) 0)
+reported (Found n j) = lookedUp (n .0) (j .0)
+reported (TooWide n) = refused (reply 5 (n .0))
+reported (Refused r) = refused (reply (refusalNumber r) 0)
 
 -- "The index is floor(X/2^(15-k)) - 2^k."
-abbrev pub indexOf : ℕ → ℕ → ℕ
-indexOf k x = x / 2 ^ (15 - k) - 2 ^ k
+abbrev pub indexOf : Shape → ℕ → ℕ
+indexOf s x = x / 2 ^ (15 - s .k) - 2 ^ s .k
 
 -- 1, 2, 3, 6, then 5 for the one field
-abbrev pub divisorTests : ℕ → ℕ → ℕ → ℕ → List Test
-divisorTests k m x lent = tableTests k m lent ++ (divisor x ∷ [])
+abbrev pub divisorTests : Shape → ℕ → ℕ → List Test
+divisorTests s x lent = tableTests s lent ++ (divisor x ∷ [])
 
-abbrev pub lookupIn : ℕ → ℕ → ℕ → ℕ → ℕ → ℕ → Report
-lookupIn k m x lent n f = answer refused (found n (jOf m f)) (divisorTests k m x lent ++ (tooWide m n f ∷ []))
+abbrev pub lookupAt : Shape → ℕ → List ℕ → ℕ → Report
+lookupAt s x cells n =
+    let f : ℕ = getD cells n 0 in
+    answer refused (lookedUp n (jOf s f)) (divisorTests s x (length cells) ++ (tooWide s n f ∷ []))
 
 -- "Look up takes a divisor X .. It gives n and j"
-abbrev pub lookupReport : ℕ → ℕ → ℕ → List ℕ → Report
-lookupReport k m x cells = lookupIn k m x (length cells) (indexOf k x) (getD cells (indexOf k x) 0)
+abbrev pub lookupReport : Shape → ℕ → List ℕ → Report
+lookupReport s x cells = lookupAt s x cells (indexOf s x)

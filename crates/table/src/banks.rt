@@ -1,8 +1,9 @@
 // Where a bank lies in a table.
 ghost use mathlib.Core.Path.{_≡_};
-ghost use Prim.Native.Nat.{_+_, _≤_, _<_, _^_};
-ghost use Rattle.units.specs.Refusals.{backOf, refusal};
-ghost use Rattle.table.specs.Banks.{bankSize, bankStart, bankPlace};
+ghost use Prim.Native.Nat.{_+_};
+ghost use Rattle.units.specs.Refusals.{replyOf, refusal};
+ghost use Rattle.table.specs.Inner.Good.{GoodBank};
+ghost use Rattle.table.specs.Banks.{bankSize, bankStart, bankName, bankPlace};
 use units::Outcome;
 use units::bank_height;
 use units::bank_number;
@@ -17,7 +18,7 @@ pub struct Stretch {
 
 // "bank b (0 to 2^h - 1) is the 2^(k-h) entries from b·2^(k-h) on"
 pub fn bank_at(k: u32, h: u32, b: u32) -> Stretch
-    requires { ⌜ (k ≤ 15) × ((h ≤ k) × (b < 2 ^ h)) ⌝ }
+    requires { ⌜ GoodBank k h b ⌝ }
     ensures { λ r. ⌜ (r .first ≡ bankStart k h b) × (r .end ≡ bankStart k h b + bankSize k h) ⌝ }
 {
     let size = power(k - h) as usize;
@@ -28,11 +29,16 @@ pub fn bank_at(k: u32, h: u32, b: u32) -> Stretch
     }
 }
 
-// The tests 4 for h and b, and 3, for every call that takes a bank of a lent table.
-pub fn bank_in_table(k: u32, h: u32, b: u32, lent: usize) -> Outcome
-    ensures { λ r. ⌜ backOf r ≡ refusal (bankPlace k h b lent) ⌝ }
+// The tests 4 for h and b.
+pub fn bank_named(k: u32, h: u32, b: u32) -> Outcome
+    ensures { λ r. ⌜ replyOf r ≡ refusal (bankName k h b) ⌝ }
 {
-    bank_height(k, h)
-        .then(bank_number(h, b))
-        .then(few_cells(lent, k))
+    bank_height(k, h).then(bank_number(h, b))
+}
+
+// The same, and 3, for every call that takes a bank of a lent table.
+pub fn bank_in_table(k: u32, h: u32, b: u32, lent: usize) -> Outcome
+    ensures { λ r. ⌜ replyOf r ≡ refusal (bankPlace k h b lent) ⌝ }
+{
+    bank_named(k, h, b).then(few_cells(lent, k))
 }

@@ -6,6 +6,7 @@ mod views;
 
 pub use banks::Stretch;
 pub use banks::bank_at;
+pub use banks::bank_named;
 pub use builders::build;
 pub use builders::build_bank;
 pub use lookups::LookupAnswer;

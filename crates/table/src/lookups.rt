@@ -1,14 +1,15 @@
 // The call "Look up" of document 01.
 ghost use mathlib.Core.Path.{_≡_};
 ghost use Prim.Native.Nat.{_≤_, _<_, _^_};
-ghost use Rattle.units.specs.Refusals.{backOf, refusal};
+ghost use Rattle.units.specs.Inner.Good.{GoodWidths};
+ghost use Rattle.units.specs.Refusals.{replyOf, refusal};
 ghost use Rattle.table.specs.Lookup.{indexOf, divisorTests, reported, lookupReport};
-use entry::Stored;
-use entry::read_field;
+use entry::fields_of;
 use units::Entry;
 use units::Interval;
 use units::Outcome;
 use units::Refusal;
+use units::Shape;
 use units::divisor_range;
 use units::power;
 use units::whole_table;
@@ -21,17 +22,17 @@ pub enum LookupAnswer {
 }
 
 // "The index is floor(X/2^(15-k)) - 2^k."
-fn index_of(k: u32, x: u32) -> usize
-    requires { ⌜ (k ≤ 15) × ((2 ^ 15 ≤ x) × (x < 2 ^ 16)) ⌝ }
-    ensures { λ r. ⌜ r ≡ indexOf k x ⌝ }
+fn index_of(shape: Shape, x: u32) -> usize
+    requires { ⌜ (GoodWidths shape) × ((2 ^ 15 ≤ x) × (x < 2 ^ 16)) ⌝ }
+    ensures { λ r. ⌜ r ≡ indexOf shape x ⌝ }
 {
-    (x >> (15 - k)) as usize - power(k) as usize
+    (x >> (15 - shape.k)) as usize - power(shape.k) as usize
 }
 
-fn findable(k: u32, m: u32, x: u32, lent: usize) -> Outcome
-    ensures { λ r. ⌜ backOf r ≡ refusal (divisorTests k m x lent) ⌝ }
+fn findable(shape: Shape, x: u32, lent: usize) -> Outcome
+    ensures { λ r. ⌜ replyOf r ≡ refusal (divisorTests shape x lent) ⌝ }
 {
-    match whole_table(k, m, lent) {
+    match whole_table(shape, lent) {
         Outcome::Refused(r) => Outcome::Refused(r),
         Outcome::Done => divisor_range(x),
     }
@@ -39,17 +40,22 @@ fn findable(k: u32, m: u32, x: u32, lent: usize) -> Outcome
 
 // "Look up takes a divisor X from 32768 to 65535, which means x = X/32768 .. It gives n and j; of all
 // the cells, its answer depends on cell n alone."
-pub fn look_up(k: u32, m: u32, x: u32, table: &[u16]) -> LookupAnswer
-    ensures { λ r. ⌜ reported r ≡ lookupReport k m x (now (table .entry)) ⌝ }
+pub fn look_up(shape: Shape, x: u32, table: &[u16]) -> LookupAnswer
+    ensures { λ r. ⌜ reported r ≡ lookupReport shape x (now (table .entry)) ⌝ }
 {
-    match findable(k, m, x, table.len()) {
+    match findable(shape, x, table.len()) {
         Outcome::Refused(r) => LookupAnswer::Refused(r),
         Outcome::Done => {
-            let at = index_of(k, x);
+            let at = index_of(shape, x);
             let n = Interval(at as u32);
-            match read_field(m, table[at]) {
-                Stored::TooWide => LookupAnswer::TooWide(n),
-                Stored::Entry(j) => LookupAnswer::Found { n: n, j: j },
+            let f = table[at];
+            let fields = fields_of(shape);
+            if fields.is_wide(f) {
+                return LookupAnswer::TooWide(n);
+            }
+            LookupAnswer::Found {
+                n: n,
+                j: fields.entry(f),
             }
         }
     }

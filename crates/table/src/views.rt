@@ -1,7 +1,7 @@
 // The call "Show a bank" of document 01, and its companion.
 ghost use mathlib.Core.Path.{_≡_};
 ghost use lib.ListN.{length};
-ghost use Rattle.units.specs.Refusals.{backOf, refusal};
+ghost use Rattle.units.specs.Refusals.{replyOf, refusal};
 ghost use Rattle.table.specs.Banks.{viewTests, shown};
 use crate::banks::bank_at;
 use crate::banks::bank_in_table;
@@ -9,7 +9,7 @@ use units::Outcome;
 use units::input_width;
 
 fn viewable(k: u32, h: u32, b: u32, lent: usize) -> Outcome
-    ensures { λ r. ⌜ backOf r ≡ refusal (viewTests k h b lent) ⌝ }
+    ensures { λ r. ⌜ replyOf r ≡ refusal (viewTests k h b lent) ⌝ }
 {
     input_width(k).then(bank_in_table(k, h, b, lent))
 }
@@ -32,7 +32,7 @@ pub fn show_bank(k: u32, h: u32, b: u32, table: &[u16]) -> &[u16]
 
 // "an empty stretch means refusal, and a companion call with the same inputs gives the number"
 pub fn show_bank_number(k: u32, h: u32, b: u32, table: &[u16]) -> Outcome
-    ensures { λ r. ⌜ backOf r ≡ refusal (viewTests k h b (length (now (table .entry)))) ⌝ }
+    ensures { λ r. ⌜ replyOf r ≡ refusal (viewTests k h b (length (now (table .entry)))) ⌝ }
 {
     viewable(k, h, b, table.len())
 }

@@ -1,4 +1,5 @@
 pub mod Order
 pub mod Powers
 pub mod Tests
+pub mod Good
 pub mod OneToOne

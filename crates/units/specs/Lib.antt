@@ -1,2 +1,4 @@
 pub mod Sides
+pub mod Shapes
 pub mod Refusals
+pub mod Inner

@@ -10,6 +10,9 @@ ghost use Rattle.units.specs.Sides.{sideNumber};
 // The number n of an interval, from 0 to 2^k - 1.
 pub struct Interval(pub u32);
 
+// The left end i = 2^k + n of an interval, which is at i/2^k.
+pub struct LeftEnd(pub u32);
+
 // The number j of an entry, which stands for j/2^(m+1).
 pub struct Entry(pub u32);
 

@@ -1,15 +1,18 @@
-// The kinds of numbers that a reciprocal table is counted in, the numbers by which a call is
-// refused, and powers of two. Every crate above stands on this one.
+// The kinds of numbers that a reciprocal table is counted in, the shape of a table, the numbers by
+// which a call is refused, and powers of two. Every crate above stands on this one.
 mod kinds;
 mod powers;
 mod refusals;
+mod shapes;
 
 pub use kinds::Entry;
 pub use kinds::Error;
 pub use kinds::Interval;
+pub use kinds::LeftEnd;
 pub use kinds::Side;
 pub use kinds::Worst;
 pub use powers::power;
+pub use powers::small_power;
 pub use refusals::Outcome;
 pub use refusals::Refusal;
 pub use refusals::bank_height;
@@ -21,3 +24,4 @@ pub use refusals::interval_place;
 pub use refusals::reaches;
 pub use refusals::whole_table;
 pub use refusals::widths;
+pub use shapes::Shape;

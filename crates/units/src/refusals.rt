@@ -3,9 +3,10 @@ ghost use mathlib.Core.Path.{_≡_};
 ghost use mathlib.Core.List.{[], _∷_};
 ghost use Prim.Native.Nat.{_^_};
 ghost use lib.Dec.{leb};
-ghost use Rattle.units.specs.Refusals.{test, back, backOf, refusalNumber, refusal, thenBack, outside, inputWidth, outputWidth, fewCells, bankHeight, bankNumber, place, divisor, widthTests, tableTests};
+ghost use Rattle.units.specs.Refusals.{test, reply, replyOf, refusalNumber, refusal, thenReply, outside, inputWidth, outputWidth, fewCells, bankHeight, bankNumber, place, divisor, widthTests, tableTests};
 use crate::kinds::Interval;
 use crate::powers::power;
+use crate::shapes::Shape;
 
 // The refusals that give a number only. Number 5 names an interval besides, so it stands beside them
 // in every answer.
@@ -49,7 +50,7 @@ pub enum Outcome {
 impl Outcome {
     // Document 01's number for it.
     pub fn number(self) -> u32
-        ensures { λ r. ⌜ r ≡ backOf self .number ⌝ }
+        ensures { λ r. ⌜ r ≡ replyOf self .number ⌝ }
     {
         match self {
             Outcome::Done => 0,
@@ -59,7 +60,7 @@ impl Outcome {
 
     // The tests that ended so, and after them those that ended in next: the first refusal counts.
     pub fn then(self, next: Outcome) -> Outcome
-        ensures { λ r. ⌜ backOf r ≡ thenBack (backOf self) (backOf next) ⌝ }
+        ensures { λ r. ⌜ replyOf r ≡ thenReply (replyOf self) (replyOf next) ⌝ }
     {
         match self {
             Outcome::Done => next,
@@ -69,7 +70,7 @@ impl Outcome {
 }
 
 fn refused_if(holds: bool, r: Refusal) -> Outcome
-    ensures { λ o. ⌜ backOf o ≡ refusal (test holds (back (refusalNumber r) 0) ∷ []) ⌝ }
+    ensures { λ o. ⌜ replyOf o ≡ refusal (test holds (reply (refusalNumber r) 0) ∷ []) ⌝ }
 {
     if holds {
         Outcome::Refused(r)
@@ -100,7 +101,7 @@ pub fn reaches(w: u32, x: u64) -> bool
 
 // Refused if x is 2^w or more.
 fn refused_past(w: u32, x: u64, r: Refusal) -> Outcome
-    ensures { λ o. ⌜ backOf o ≡ refusal (test (leb (2 ^ w) x) (back (refusalNumber r) 0) ∷ []) ⌝ }
+    ensures { λ o. ⌜ replyOf o ≡ refusal (test (leb (2 ^ w) x) (reply (refusalNumber r) 0) ∷ []) ⌝ }
 {
     refused_if(reaches(w, x), r)
 }
@@ -113,28 +114,28 @@ fn no_width(w: u32) -> bool
 }
 
 fn refused_width(w: u32, r: Refusal) -> Outcome
-    ensures { λ o. ⌜ backOf o ≡ refusal (test (outside 1 15 w) (back (refusalNumber r) 0) ∷ []) ⌝ }
+    ensures { λ o. ⌜ replyOf o ≡ refusal (test (outside 1 15 w) (reply (refusalNumber r) 0) ∷ []) ⌝ }
 {
     refused_if(no_width(w), r)
 }
 
 // 1: "k not 1..15".
 pub fn input_width(k: u32) -> Outcome
-    ensures { λ r. ⌜ backOf r ≡ refusal (inputWidth k ∷ []) ⌝ }
+    ensures { λ r. ⌜ replyOf r ≡ refusal (inputWidth k ∷ []) ⌝ }
 {
     refused_width(k, Refusal::InputWidth)
 }
 
 // 2: "m not 1..15".
 pub fn output_width(m: u32) -> Outcome
-    ensures { λ r. ⌜ backOf r ≡ refusal (outputWidth m ∷ []) ⌝ }
+    ensures { λ r. ⌜ replyOf r ≡ refusal (outputWidth m ∷ []) ⌝ }
 {
     refused_width(m, Refusal::OutputWidth)
 }
 
 // 3: fewer than 2^w cells lent.
 pub fn few_cells(lent: usize, w: u32) -> Outcome
-    ensures { λ r. ⌜ backOf r ≡ refusal (fewCells lent (2 ^ w) ∷ []) ⌝ }
+    ensures { λ r. ⌜ replyOf r ≡ refusal (fewCells lent (2 ^ w) ∷ []) ⌝ }
 {
     if reaches(w, lent as u64) {
         return Outcome::Done;
@@ -144,49 +145,49 @@ pub fn few_cells(lent: usize, w: u32) -> Outcome
 
 // 4: "h > k".
 pub fn bank_height(k: u32, h: u32) -> Outcome
-    ensures { λ r. ⌜ backOf r ≡ refusal (bankHeight k h ∷ []) ⌝ }
+    ensures { λ r. ⌜ replyOf r ≡ refusal (bankHeight k h ∷ []) ⌝ }
 {
     refused_if(k < h, Refusal::Place)
 }
 
 // 4: "b >= 2^h".
 pub fn bank_number(h: u32, b: u32) -> Outcome
-    ensures { λ r. ⌜ backOf r ≡ refusal (bankNumber h b ∷ []) ⌝ }
+    ensures { λ r. ⌜ replyOf r ≡ refusal (bankNumber h b ∷ []) ⌝ }
 {
     refused_past(h, b as u64, Refusal::Place)
 }
 
 // 4: "n >= 2^k".
 pub fn interval_place(k: u32, n: Interval) -> Outcome
-    ensures { λ r. ⌜ backOf r ≡ refusal (place k (n .0) ∷ []) ⌝ }
+    ensures { λ r. ⌜ replyOf r ≡ refusal (place k (n .0) ∷ []) ⌝ }
 {
     refused_past(k, n.0 as u64, Refusal::Place)
 }
 
 // 6: "X below 32768 or above 65535".
 pub fn divisor_range(x: u32) -> Outcome
-    ensures { λ r. ⌜ backOf r ≡ refusal (divisor x ∷ []) ⌝ }
+    ensures { λ r. ⌜ replyOf r ≡ refusal (divisor x ∷ []) ⌝ }
 {
     refused_if(is_outside(32768, 65535, x), Refusal::Divisor)
 }
 
 // 1 and 2, with which every call that takes both widths begins.
-pub fn widths(k: u32, m: u32) -> Outcome
-    ensures { λ r. ⌜ backOf r ≡ refusal (widthTests k m) ⌝ }
+pub fn widths(shape: Shape) -> Outcome
+    ensures { λ r. ⌜ replyOf r ≡ refusal (widthTests shape) ⌝ }
 {
-    input_width(k).then(output_width(m))
+    input_width(shape.k).then(output_width(shape.m))
 }
 
 // 1, 2 and 3, with which survey, check and look up begin. Not joined by `then`: a look-up is little
 // more than these tests (docs/BENCHMARKS.md).
-pub fn whole_table(k: u32, m: u32, lent: usize) -> Outcome
-    ensures { λ r. ⌜ backOf r ≡ refusal (tableTests k m lent) ⌝ }
+pub fn whole_table(shape: Shape, lent: usize) -> Outcome
+    ensures { λ r. ⌜ replyOf r ≡ refusal (tableTests shape lent) ⌝ }
 {
-    if no_width(k) {
+    if no_width(shape.k) {
         return Outcome::Refused(Refusal::InputWidth);
     }
-    if no_width(m) {
+    if no_width(shape.m) {
         return Outcome::Refused(Refusal::OutputWidth);
     }
-    few_cells(lent, k)
+    few_cells(lent, shape.k)
 }

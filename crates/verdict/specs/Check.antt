@@ -3,10 +3,11 @@ use Prim.Native.Nat.{ℕ, suc, _^_}
 use mathlib.Core.Bool.{Bool, true, false, cond}
 use mathlib.Core.List.{List, [], _∷_, _++_}
 use lib.ListN.{length, take}
-use Rattle.units.specs.Refusals.{Back, back, Test, answer, refusalNumber, tableTests}
+use Rattle.units.specs.Refusals.{Reply, reply, Test, answer, refusalNumber, tableTests}
+use Rattle.units.specs.declared.shapes.Shape.{Shape}
 use Rattle.entry.specs.Errors.{unit, iOf, jOf, worst}
 use Rattle.entry.specs.Least.{leastWorst, isBest}
-use Rattle.entry.specs.Wide.{wideAmong}
+use Rattle.table.specs.Wide.{wideAmong}
 use Rattle.verdict.specs.declared.CheckAnswer.{CheckAnswer}
 use Rattle.verdict.specs.declared.CheckAnswer.the-variants.{Yes, NotBest, TooWide, Refused}
 
@@ -19,7 +20,7 @@ pub record Report : Type 0 where
   pub worst : ℕ
   pub least : ℕ
 
-abbrev pub refused : Back → Report
+abbrev pub refused : Reply → Report
 refused b = record { number = b .number; yes = false; n = b .n; worst = 0; least = 0 }
 
 abbrev pub passed : Report
@@ -32,19 +33,20 @@ notBest n worst least = record { number = 0; yes = false; n = n; worst = worst; 
 abbrev pub reported : CheckAnswer → Report
 reported Yes = passed
 reported (NotBest n worst least) = notBest (n .0) (worst .0) (least .0)
-reported (TooWide n) = refused (back 5 (n .0))
-reported (Refused r) = refused (back (refusalNumber r) 0)
+reported (TooWide n) = refused (reply 5 (n .0))
+reported (Refused r) = refused (reply (refusalNumber r) 0)
 
--- the first entry that is not best, where the first of the fields is that of interval n; or yes at the end
-unfoldable pub firstNotBest : ℕ → ℕ → ℕ → List ℕ → Report
-firstNotBest k m n [] = passed
-firstNotBest k m n (f ∷ fs) =
-    cond (isBest k m n (jOf m f)) (firstNotBest k m (suc n) fs)
-    (notBest n (worst (unit k m) (iOf k n) (jOf m f)) (leastWorst k m n))
+-- the first entry that fails a test of its n and j, where the first of the fields is that of interval n; or yes at the end
+unfoldable pub firstFailing : (ℕ → ℕ → Bool) → Shape → ℕ → List ℕ → Report
+firstFailing good s n [] = passed
+firstFailing good s n (f ∷ fs) =
+    cond (good n (jOf s f)) (firstFailing good s (suc n) fs)
+    (notBest n (worst (unit s) (iOf s n) (jOf s f)) (leastWorst s n))
 
--- 1, 2, 3, and 5 "in the whole lent table first": the table is the first 2^k cells
-abbrev pub checkTests : ℕ → ℕ → List ℕ → List Test
-checkTests k m cells = tableTests k m (length cells) ++ (wideAmong m 0 (take (2 ^ k) cells) ∷ [])
+-- the check of a table's fields after a call's other tests: 5 "in the whole lent table first", then whether each entry is best
+abbrev pub checkAfter : List Test → Shape → List ℕ → Report
+checkAfter tests s fields = answer refused (firstFailing (isBest s) s 0 fields) (tests ++ (wideAmong s 0 fields ∷ []))
 
-abbrev pub checkReport : ℕ → ℕ → List ℕ → Report
-checkReport k m cells = answer refused (firstNotBest k m 0 (take (2 ^ k) cells)) (checkTests k m cells)
+-- 1, 2, 3, then 5: the table is the first 2^k cells
+abbrev pub checkReport : Shape → List ℕ → Report
+checkReport s cells = checkAfter (tableTests s (length cells)) s (take (2 ^ s .k) cells)

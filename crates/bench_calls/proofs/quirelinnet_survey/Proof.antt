@@ -6,36 +6,6 @@ use borrow.Author.Needs.{needs}
 use Rattle.bench_calls.proofs.quirelinnet_survey.Statement.{statement}
 use Rattle.bench_calls.proofs.quirelinnet_survey.Tie as tie
 
-whole-requires : tie.Need-whole-requires
-whole-requires c κs = search needs
-
-enum-known-f : tie.Need-enum-known-f
-enum-known-f c = search needs
-
-cast-t10 : tie.Need-cast-t10
-cast-t10 c = search needs
-
-number-requires : tie.Need-number-requires
-number-requires c κs = search needs
-
-cast-t12 : tie.Need-cast-t12
-cast-t12 c = search needs
-
-enum-known-n : tie.Need-enum-known-n
-enum-known-n c = search needs
-
-cast-t13 : tie.Need-cast-t13
-cast-t13 c = search needs
-
-enum-known-r : tie.Need-enum-known-r
-enum-known-r c = search needs
-
-number-requires-2 : tie.Need-number-requires-2
-number-requires-2 c κs = search needs
-
-cast-t15 : tie.Need-cast-t15
-cast-t15 c = search needs
-
 returns : tie.Need-returns
 returns c = rw (c .before .number .ensures) (numbers-told reported surveyNumbers (c .before .before .before .before .f .given .1) (c .before .before .before .before .before .before .whole .ensures))
 
@@ -49,16 +19,16 @@ pub quirelinnet-survey-spec : {M : Type 1} → statement M
 quirelinnet-survey-spec =
     tie.close
     (tie.spec
-    whole-requires
-    enum-known-f
-    cast-t10
-    number-requires
-    cast-t12
-    enum-known-n
-    cast-t13
-    enum-known-r
-    number-requires-2
-    cast-t15
+    (λ c κs. search needs)
+    (λ c. search needs)
+    (λ c. search needs)
+    (λ c κs. search needs)
+    (λ c. search needs)
+    (λ c. search needs)
+    (λ c. search needs)
+    (λ c. search needs)
+    (λ c κs. search needs)
+    (λ c. search needs)
     returns
     returns-2
     returns-3)

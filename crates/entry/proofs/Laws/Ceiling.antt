@@ -8,13 +8,16 @@ use borrow.Author.Tests.{le-leb, lt-leb}
 use lib.Pow.{pow-mono}
 use Rattle.units.proofs.Laws.Order.{by-order}
 use Rattle.units.proofs.Laws.Powers.{power-splits}
+use Rattle.units.specs.declared.shapes.Shape.{Shape}
 use Rattle.entry.specs.Errors.{unit, iOf, worst}
-use Rattle.entry.specs.Least.{cap, leastWorst}
+use Rattle.entry.specs.Fields.{cap}
+use Rattle.entry.specs.Least.{leastWorst}
 use Rattle.entry.specs.Rule.{rule}
 use Rattle.entry.specs.Ceiling.{ceiling}
+use Rattle.entry.proofs.Laws.Fields.{cap-at-least}
 use Rattle.entry.proofs.Laws.Worst.{dist, worst-doubled}
 use Rattle.entry.proofs.Laws.Rule.{rule-not-high, rule-not-low}
-use Rattle.entry.proofs.Laws.Table.{unit-is, cap-is, rule-value-reaches-least}
+use Rattle.entry.proofs.Laws.Table.{unit-is, rule-value-reaches-least}
 
 -- (i - a)·(b - i) is not below zero
 between : (a i b : ℕ) → a ≤ i → i ≤ b → i * i + a * b ≤ i * b + a * i
@@ -39,39 +42,39 @@ module _ (a b i most : ℕ) (above : a ≤ i) (below : i ≤ b) where
       (λ g. omega (arith, sum-within, rule-not-high (a * b) i most, mul-le-mul-left i g))
       (λ g. omega (arith, sum-within, rule-not-high (a * b) i most, rule-not-low (a * b) i most g)))
 
-module _ (k m : ℕ) {n : ℕ} (h : n < 2 ^ k) where
+module _ (s : Shape) {n : ℕ} (h : n < 2 ^ s .k) where
   -- twice the ceiling, for any two factors of the unit with i between them
-  least-within : (a b : ℕ) → a * b ≡ unit k m → a ≤ iOf k n → iOf k n ≤ b → 2 * 2 ^ k ≤ a + b → 2 * leastWorst k m n ≤ a + b
+  least-within : (a b : ℕ) → a * b ≡ unit s → a ≤ iOf s n → iOf s n ≤ b → 2 * 2 ^ s .k ≤ a + b → 2 * leastWorst s n ≤ a + b
   least-within a b e above below l =
-      let first : 2 ^ k ≤ iOf k n = omega arith in
-      rw (← (rule-value-reaches-least k m h))
-      (subst (λ (u : ℕ). 2 * worst u (iOf k n) (rule u (iOf k n) (cap m)) ≤ a + b) e
-      (rule-within-ceiling a b (iOf k n) (cap m) above below (2 ^ k)
+      let first : 2 ^ s .k ≤ iOf s n = omega arith in
+      rw (← (rule-value-reaches-least s h))
+      (subst (λ (u : ℕ). 2 * worst u (iOf s n) (rule u (iOf s n) (cap s)) ≤ a + b) e
+      (rule-within-ceiling a b (iOf s n) (cap s) above below (2 ^ s .k)
       (omega (
         arith,
         e,
-        unit-is k m,
-        ap (λ (x : ℕ). 2 ^ k * x) (cap-is m),
-        mul-le-mul-right (cap m) first,
+        unit-is s,
+        mul-le-mul-left (2 ^ s .k) (cap-at-least s),
+        mul-le-mul-right (cap s) first,
       ))
       l))
 
   -- Document 01, "Ceilings"; the first is the order's, demand 3
-  pub least-within-ceiling : 1 ≤ k → 1 ≤ m → leastWorst k m n ≤ ceiling k m
+  pub least-within-ceiling : 1 ≤ s .k → 1 ≤ s .m → leastWorst s n ≤ ceiling s
   unfolding ceiling
   least-within-ceiling k-positive m-positive =
-      by-order k m
-      (λ (l : k ≤ m).
-      simp (le-leb k m l)
+      by-order (s .k) (s .m)
+      (λ (l : s .k ≤ s .m).
+      simp (le-leb (s .k) (s .m) l)
       (omega (
         arith,
         power-splits k-positive,
-        least-within (2 ^ k) (2 * 2 ^ m) (omega (arith, unit-is k m)) (omega arith) (omega (arith, pow-mono l)) (omega (arith, pow-mono l)),
+        least-within (2 ^ s .k) (2 * 2 ^ s .m) (omega (arith, unit-is s)) (omega arith) (omega (arith, pow-mono l)) (omega (arith, pow-mono l)),
       )))
-      (λ (l : m < k).
-      simp (lt-leb k m l)
+      (λ (l : s .m < s .k).
+      simp (lt-leb (s .k) (s .m) l)
       (omega (
         arith,
         power-splits m-positive,
-        least-within (2 ^ m) (2 * 2 ^ k) (omega (arith, unit-is k m)) (omega (arith, pow-mono l)) (omega arith) (omega arith),
+        least-within (2 ^ s .m) (2 * 2 ^ s .k) (omega (arith, unit-is s)) (omega (arith, pow-mono l)) (omega arith) (omega arith),
       )))

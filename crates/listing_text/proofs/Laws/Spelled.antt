@@ -7,7 +7,7 @@ use native.Mathlib.Omega.{arith}
 use lib.ListN.{length, take, drop, set, length-append, length-drop, take-append-drop}
 use lib.Seq.{length-take-le, take-set-le, set-split, drop-at, take-at}
 use Rattle.io.specs.Digits.{glyph, digits}
-use Rattle.listing_text.specs.Text.{Put}
+use Rattle.listing_text.specs.Inner.Pages.{Put}
 
 -- the page with the last `left` digits of n in base b at the place `at`
 abbrev pub spelled : ℕ → List ℕ → ℕ → ℕ → ℕ → List ℕ
@@ -35,7 +35,7 @@ spelled-last b page at (suc left) n some h =
     let one-fewer : suc left - 1 ≡ left = omega arith in
     rw (one-fewer, take-set-le at page place last (omega arith), drop-set page place last (omega arith), append-assoc (digits b left (n / b)), add-suc at left) refl
 
-pub spelled-put : (b : ℕ) (page : List ℕ) (at k n : ℕ) → at + k ≤ length page → Put (digits b k n) page at (spelled b page at k n) (at + k)
+pub spelled-put : (b : ℕ) (page : List ℕ) (at k n : ℕ) → at + k ≤ length page → Put (digits b k n) k page at (spelled b page at k n) (at + k)
 spelled-put b page at k n h =
     let before = take at page in
     let text = digits b k n in
@@ -44,5 +44,6 @@ spelled-put b page at k n h =
     record {
       size = rw (sym (append-assoc before text after), length-append (before ++ text) after, end, length-drop (at + k) page) (omega arith);
       end-is = rw (length-digits b k n) refl;
+      room = omega arith;
       text-is = rw (sym (append-assoc before text after)) (take-at (before ++ text) after (at + k) end);
     }

@@ -1,19 +1,35 @@
 -- What document 01 says of the calls beyond the order's demands. Assumes nothing.
 --     banks-in-any-order                   "All banks of one h, built in any order, give the whole table."
---     interval-contains                    the n that Look up gives is that of the interval that has the divisor
+--     bank-built-keeps-before, bank-built-keeps-after    "The call fills only that bank's cells"
+--     length-built, length-bank-built      a builder leaves as many cells as it was lent
+--     shown-whole, empty-is-refused, refused-is-empty    "A shown bank is never empty; an empty stretch means refusal"
+--     look-up-contains                     the n that Look up gives is that of the interval that has the divisor
 --     lookup-by-one-cell                   Look up reads one cell
---     survey-is-largest, largest-is-one    "the largest worst error, the smallest n that has it"
---     tally-is-survey                      a tally of every field is the survey
---     banks-give-whole                     the banks' findings give that of the whole table, in whatever order they come
---     check-names-first-failing            the check names the first entry that is not best
---     survey-past-table, bank-past-bank, bank-of-past-bank, check-past-table, built-keeps
+--     survey-reports-largest, largest-is-one    "the largest worst error, the smallest n that has it"
+--     tally-is-survey                      a tally of every field of a table or of a bank has its survey
+--     banks-report-whole                   the banks' reports give that of the whole table, in whatever order they come
+--     bank-of-shown                        the survey of a bank in its table is that of the bank shown
+--     check-names-first-failing, not-best-larger    the check names the first entry that is not best
+--     first-wide-is-smallest               5 names the smallest n of an over-wide field
+--     survey-past-table, bank-past-bank, bank-of-past-bank, check-past-table, shown-past-table, show-bank-number-past-table,
+--     build-number-past-table, built-past-table, build-bank-number-past-table, bank-built-past-table
 --                                          "Cells past the table change no answer and keep their values."
+--     error-above-low, error-at-most-high, high-reached, low-approached    "Over interval n it runs from low (not reached) to high
+--                                          (reached at the left end)", at every x
+--     worst-bounds-error, worst-is-least-bound    a fraction bounds the error at every x iff the worst error is at most that
+--     nearest-is-nearest                   "Nearest is worked out exactly": no whole number is nearer
+pub use Rattle.entry.proofs.Laws.Everywhere.{error-above-low, error-at-most-high, high-reached, low-approached, worst-bounds-error, worst-is-least-bound}
+pub use Rattle.entry.proofs.Laws.Nearest.{nearest-is-nearest}
 pub use Rattle.table.proofs.Laws.AnyOrder.{banks-in-any-order}
-pub use Rattle.table.proofs.Laws.Lookup.{interval-contains, lookup-by-one-cell}
-pub use Rattle.table.proofs.Laws.Built.{built-keeps}
-pub use Rattle.survey.proofs.Laws.Largest.{survey-is-largest, largest-is-one}
-pub use Rattle.survey.proofs.Laws.Tallied.{tally-is-survey}
-pub use Rattle.survey.proofs.Laws.Join.{banks-give-whole}
+pub use Rattle.table.proofs.Laws.Built.{length-built, bank-built-keeps-before, bank-built-keeps-after, length-bank-built}
+pub use Rattle.table.proofs.Laws.Lookup.{look-up-contains, lookup-by-one-cell}
+pub use Rattle.table.proofs.Laws.Past.{build-number-past-table, built-past-table, build-bank-number-past-table, bank-built-past-table, show-bank-number-past-table, shown-past-table}
+pub use Rattle.table.proofs.Laws.Shown.{shown-whole, empty-is-refused, refused-is-empty}
+pub use Rattle.table.proofs.Laws.Wide.{first-wide-is-smallest}
+pub use Rattle.survey.proofs.Laws.Largest.{largest-is-one}
 pub use Rattle.survey.proofs.Laws.Past.{survey-past-table, bank-past-bank, bank-of-past-bank}
-pub use Rattle.verdict.proofs.Laws.Finding.{check-names-first-failing}
+pub use Rattle.survey.proofs.Laws.Reported.{survey-reports-largest, banks-report-whole}
+pub use Rattle.survey.proofs.Laws.Shown.{bank-of-shown}
+pub use Rattle.survey.proofs.Laws.Tallied.{tally-is-survey}
+pub use Rattle.verdict.proofs.Laws.Finding.{check-names-first-failing, not-best-larger}
 pub use Rattle.verdict.proofs.Laws.Verdict.{check-past-table}

@@ -4,13 +4,14 @@ use Prim.Native.Nat.{ℕ, _<_}
 use mathlib.Core.List.{List, []}
 use mathlib.Core.Path.{_≡_, refl, sym}
 use lib.ListN.{length}
-use Rattle.units.specs.Refusals.{Back, refusal, tableTests}
+use Rattle.units.specs.Refusals.{Reply, refusal, tableTests}
+use Rattle.units.specs.declared.shapes.Shape.{Shape}
 use Rattle.units.proofs.Laws.Tests.{refused-by}
 use Rattle.table.specs.Build.{built, bankTests, bankBuilt}
 
-pub refused-build-writes-nothing : (k m : ℕ) (cells : List ℕ) → 0 < refusal (tableTests k m (length cells)) .number → built k m cells ≡ cells
-refused-build-writes-nothing k m cells h = sym (refused-by (λ (_ : Back). cells) _ (tableTests k m (length cells)) [] refl h)
+pub refused-build-writes-nothing : (s : Shape) (cells : List ℕ) → 0 < refusal (tableTests s (length cells)) .number → built s cells ≡ cells
+refused-build-writes-nothing s cells h = sym (refused-by (λ (_ : Reply). cells) _ (tableTests s (length cells)) [] refl h)
 
-pub refused-bank-writes-nothing : (k m h b : ℕ) (cells : List ℕ) → 0 < refusal (bankTests k m h b (length cells)) .number
-    → bankBuilt k m h b cells ≡ cells
-refused-bank-writes-nothing k m h b cells l = sym (refused-by (λ (_ : Back). cells) _ (bankTests k m h b (length cells)) [] refl l)
+pub refused-bank-writes-nothing : (s : Shape) (h b : ℕ) (cells : List ℕ) → 0 < refusal (bankTests s h b (length cells)) .number
+    → bankBuilt s h b cells ≡ cells
+refused-bank-writes-nothing s h b cells l = sym (refused-by (λ (_ : Reply). cells) _ (bankTests s h b (length cells)) [] refl l)

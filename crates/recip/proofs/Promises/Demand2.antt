@@ -2,40 +2,59 @@
 --     built-reaches-least, built-entry    "every entry built has the least worst relative error of all m-bit entries .. and is the entry that
 --                                         document 01 names where two are equally good"
 --     bank-built-reaches-least, bank-built-entry    the same of a bank
---     yes-all-best, all-best-yes          "The checker says yes exactly to tables whose every entry reaches that least error."
+--     yes-exactly-if-best                 "The checker says yes exactly to tables whose every entry reaches that least error."
 --     built-passes                        so it says yes to every built table
--- and below, "A call to which no refusal number's reason applies is done and answers 0."
-use Prim.Native.Nat.{ℕ, suc, _<_, _^_}
+-- and below, the same at every x, and "A call to which no refusal number's reason applies is done and answers 0."
+use Prim.Native.Nat.{ℕ, suc, _+_, _≤_, _<_, _^_}
 use mathlib.Core.Bool.{Bool, true, false, cond}
 use mathlib.Core.List.{List, [], _∷_, _++_}
-use mathlib.Core.Path.{_≡_, refl, sym, ap, _∙_}
+use mathlib.Core.Path.{_≡_, refl, sym, ap}
 use native.Mathlib.Omega.{arith}
+use lib.IntN.{pos}
 use lib.ListN.{length, take, getD}
-use Rattle.units.specs.Refusals.{Back, back, Test, answer, refusal, tooWide}
-use Rattle.units.proofs.Laws.Tests.{Passed, Numbered, all-passed, done-by}
+use lib.Pow.{pow-pos}
+use Rattle.units.specs.Refusals.{Reply, reply, Test, answer, refusal}
+use Rattle.units.specs.Inner.Good.{GoodTable}
+use Rattle.units.specs.declared.shapes.Shape.{Shape}
+use Rattle.units.proofs.Laws.Tests.{Passed, Numbered, all-passed, done-by, answer-number}
 use Rattle.entry.specs.Errors.{unit, iOf, jOf, worst}
+use Rattle.entry.specs.Everywhere.{_over_, Bounds}
+use Rattle.entry.specs.Fields.{cap, tooWide}
 use Rattle.entry.specs.Least.{leastWorst, isBest}
 use Rattle.entry.specs.Report as error-specs
-use Rattle.entry.specs.Wide.{wideAmong}
+use Rattle.entry.proofs.Laws.Everywhere.{better-entry-bounded}
+use Rattle.entry.proofs.Laws.Least.{least-below}
+use Rattle.entry.proofs.Laws.Table.{unit-splits}
+use Rattle.table.specs.Build.{built}
 use Rattle.table.specs.Lookup as lookup-specs
+use Rattle.table.specs.Wide.{wideAmong, fieldTests}
 use Rattle.survey.specs.Survey as survey-specs
 use Rattle.survey.specs.Tally as tally-specs
 use Rattle.verdict.specs.Check as check-specs
 pub use Rattle.table.proofs.Laws.Built.{built-reaches-least, built-entry, bank-built-reaches-least, bank-built-entry}
-pub use Rattle.verdict.proofs.Laws.Verdict.{yes-all-best, all-best-yes}
+pub use Rattle.verdict.proofs.Laws.Verdict.{yes-exactly-if-best}
 pub use Rattle.verdict.proofs.Laws.Built.{built-passes}
+
+-- at every x: what bounds the error of some entry at every x of an interval bounds that of the entry built
+pub built-bound-is-least : (s : Shape) (cells : List ℕ) → GoodTable s (length cells) → (n : ℕ) → n < 2 ^ s .k
+    → (j : ℕ) → 2 ^ s .m ≤ j → j ≤ cap s
+    → (a b : ℕ) → Bounds (2 ^ s .k) (2 ^ (s .m + 1)) (iOf s n) j (pos a over b)
+    → Bounds (2 ^ s .k) (2 ^ (s .m + 1)) (iOf s n) (jOf s (getD (built s cells) n 0)) (pos a over b)
+built-bound-is-least s cells good n inside j from to =
+    better-entry-bounded (2 ^ s .k) (2 ^ (s .m + 1)) (unit s) (iOf s n) j (unit-splits s) (pow-pos (s .k)) (jOf s (getD (built s cells) n 0))
+    (omega (arith, built-reaches-least s cells good n inside, least-below (unit s) (iOf s n) from to))
 
 -- if no reason of a call's tests holds, its number is 0, and if its number is 0, none does
 pub no-reason-is-done : (tests : List Test) → Passed tests → refusal tests .number ≡ 0
-no-reason-is-done tests p = sym (ap (λ (b : Back). b .number) (done-by (λ (b : Back). b) (back 0 0) tests p))
+no-reason-is-done tests p = sym (ap (λ (b : Reply). b .number) (done-by (λ (b : Reply). b) (reply 0 0) tests p))
 
 pub done-has-no-reason : (tests : List Test) → Numbered tests → refusal tests .number ≡ 0 → Passed tests
 done-has-no-reason = all-passed
 
 -- a test's answer is given where its reason holds and that of no test before it does
-pub data First : List Test → Back → Type 0 where
+pub data First : List Test → Reply → Type 0 where
   here : {t : Test} {ts : List Test} → t .holds ≡ true → First (t ∷ ts) (t .gives)
-  later : {t : Test} {ts : List Test} {b : Back} → t .holds ≡ false → First ts b → First (t ∷ ts) b
+  later : {t : Test} {ts : List Test} {b : Reply} → t .holds ≡ false → First ts b → First (t ∷ ts) b
 
 by-first : (t : Test) (ts : List Test) (holds : Bool) → t .holds ≡ holds → (0 < refusal ts .number → First ts (refusal ts))
     → 0 < cond holds (t .gives) (refusal ts) .number
@@ -50,64 +69,44 @@ refused-has-its-reason (t ∷ ts) h = by-first t ts (t .holds) refl (refused-has
 
 -- The number that a call answers is that of its tests, so the three theorems above speak of every call. Build, Build a bank and Show a
 -- bank's companion answer `refusal` of their tests itself.
-either-number : {A : Type 0} (number : A → ℕ) (refuse : Back → A) (rest : A) (after : ℕ) (holds : Bool) (gives : Back)
-    → ((b : Back) → number (refuse b) ≡ b .number)
-    → number rest ≡ after
-    → number (cond holds (refuse gives) rest) ≡ cond holds (gives .number) after
-either-number number refuse rest after true gives p q = p gives
-either-number number refuse rest after false gives p q = q
+pub entry-error-number : (s : Shape) (n f : ℕ) → error-specs.entryReport s n f .number ≡ refusal (error-specs.entryTests s n f) .number
+entry-error-number s n f =
+    answer-number (λ (r : error-specs.Report). r .number) error-specs.refused _ (error-specs.entryTests s n f) (λ b. refl) refl
 
-pushed : (holds : Bool) (a b : Back) → cond holds (a .number) (b .number) ≡ cond holds a b .number
-pushed true a b = refl
-pushed false a b = refl
-
-number-of : {A : Type 0} (number : A → ℕ) (refuse : Back → A) (done : A) (tests : List Test) → ((b : Back) → number (refuse b) ≡ b .number)
-    → number done ≡ 0
-    → number (answer refuse done tests) ≡ refusal tests .number
-unfolding answer
-number-of number refuse done [] p q = q
-number-of number refuse done (t ∷ ts) p q =
-    either-number number refuse (answer refuse done ts) (refusal ts .number) (t .holds) (t .gives) p (number-of number refuse done ts p q)
-    ∙ pushed (t .holds) (t .gives) (refusal ts)
-
-pub entry-error-number : (k m n f : ℕ) → error-specs.entryReport k m n f .number ≡ refusal (error-specs.entryTests k m n f) .number
-entry-error-number k m n f =
-    number-of (λ (r : error-specs.Report). r .number) error-specs.refused _ (error-specs.entryTests k m n f) (λ b. refl) refl
-
-pub take-number : (s : tally-specs.State) (f : ℕ) → tally-specs.tallyReport s f .number ≡ refusal (error-specs.entryTests (s .k) (s .m) (s .next) f) .number
-take-number s f =
-    number-of (λ (r : tally-specs.Report). r .number) (tally-specs.handedBack s) _ (error-specs.entryTests (s .k) (s .m) (s .next) f) (λ b. refl) refl
+pub take-number : (t : tally-specs.State) (f : ℕ) → tally-specs.tallyReport t f .number ≡ refusal (error-specs.entryTests (t .shape) (t .next) f) .number
+take-number t f =
+    answer-number (λ (r : tally-specs.Report). r .number) (tally-specs.handedBack t) _ (error-specs.entryTests (t .shape) (t .next) f) (λ b. refl) refl
 
 -- all three surveys
-pub survey-number : (tests : List Test) (k m n : ℕ) (fields : List ℕ)
-    → survey-specs.surveyAfter tests k m n fields .number ≡ refusal (tests ++ (wideAmong m n fields ∷ [])) .number
-survey-number tests k m n fields =
-    number-of (λ (r : survey-specs.Report). r .number) survey-specs.refused _ (tests ++ (wideAmong m n fields ∷ [])) (λ b. refl) refl
+pub survey-number : (tests : List Test) (s : Shape) (n : ℕ) (fields : List ℕ)
+    → survey-specs.surveyAfter tests s n fields .number ≡ refusal (tests ++ (wideAmong s n fields ∷ [])) .number
+survey-number tests s n fields =
+    answer-number (λ (r : survey-specs.Report). r .number) survey-specs.refused _ (tests ++ (wideAmong s n fields ∷ [])) (λ b. refl) refl
 
 -- a scan that finds an entry is done, too
-scan-number : (k m n : ℕ) (fields : List ℕ) → check-specs.firstNotBest k m n fields .number ≡ 0
-unfolding check-specs.firstNotBest
-scan-number k m n [] = refl
-scan-number k m n (f ∷ fs) = by-best (isBest k m n (jOf m f)) (check-specs.firstNotBest k m (suc n) fs) (scan-number k m (suc n) fs)
+scan-number : (good : ℕ → ℕ → Bool) (s : Shape) (n : ℕ) (fields : List ℕ) → check-specs.firstFailing good s n fields .number ≡ 0
+unfolding check-specs.firstFailing
+scan-number good s n [] = refl
+scan-number good s n (f ∷ fs) = by-test (good n (jOf s f)) (check-specs.firstFailing good s (suc n) fs) (scan-number good s (suc n) fs)
   where
-    by-best : (best : Bool) (rest : check-specs.Report) → rest .number ≡ 0
-        → cond best rest (check-specs.notBest n (worst (unit k m) (iOf k n) (jOf m f)) (leastWorst k m n)) .number ≡ 0
-    by-best true rest e = e
-    by-best false rest e = refl
+    by-test : (passes : Bool) (rest : check-specs.Report) → rest .number ≡ 0
+        → cond passes rest (check-specs.notBest n (worst (unit s) (iOf s n) (jOf s f)) (leastWorst s n)) .number ≡ 0
+    by-test true rest e = e
+    by-test false rest e = refl
 
-pub check-number : (k m : ℕ) (cells : List ℕ) → check-specs.checkReport k m cells .number ≡ refusal (check-specs.checkTests k m cells) .number
-check-number k m cells =
-    number-of (λ (r : check-specs.Report). r .number) check-specs.refused _ (check-specs.checkTests k m cells) (λ b. refl)
-    (scan-number k m 0 (take (2 ^ k) cells))
+pub check-number : (s : Shape) (cells : List ℕ) → check-specs.checkReport s cells .number ≡ refusal (fieldTests s cells) .number
+check-number s cells =
+    answer-number (λ (r : check-specs.Report). r .number) check-specs.refused _ (fieldTests s cells) (λ b. refl)
+    (scan-number (isBest s) s 0 (take (2 ^ s .k) cells))
 
-pub look-up-number : (k m x : ℕ) (cells : List ℕ)
-    → lookup-specs.lookupReport k m x cells .number
+pub look-up-number : (s : Shape) (x : ℕ) (cells : List ℕ)
+    → lookup-specs.lookupReport s x cells .number
     ≡ refusal
-    (lookup-specs.divisorTests k m x (length cells)
-    ++ (tooWide m (lookup-specs.indexOf k x) (getD cells (lookup-specs.indexOf k x) 0) ∷ []))
+    (lookup-specs.divisorTests s x (length cells)
+    ++ (tooWide s (lookup-specs.indexOf s x) (getD cells (lookup-specs.indexOf s x) 0) ∷ []))
     .number
-look-up-number k m x cells =
-    number-of (λ (r : lookup-specs.Report). r .number) lookup-specs.refused _
-    (lookup-specs.divisorTests k m x (length cells) ++ (tooWide m (lookup-specs.indexOf k x) (getD cells (lookup-specs.indexOf k x) 0) ∷ []))
+look-up-number s x cells =
+    answer-number (λ (r : lookup-specs.Report). r .number) lookup-specs.refused _
+    (lookup-specs.divisorTests s x (length cells) ++ (tooWide s (lookup-specs.indexOf s x) (getD cells (lookup-specs.indexOf s x) 0) ∷ []))
     (λ b. refl)
     refl

@@ -4,8 +4,9 @@ use Prim.Native.Nat.{ℕ}
 use mathlib.Core.List.{List}
 use mathlib.Core.Path.{_≡_, sym, _∙_}
 use lib.ListN.{length}
-use Rattle.units.specs.Refusals.{Back, backOf, refusal, tableTests}
+use Rattle.units.specs.Refusals.{replyOf, refusal, tableTests}
 use Rattle.units.specs.declared.refusals.Outcome.{Outcome}
+use Rattle.units.specs.declared.shapes.Shape.{Shape}
 use Rattle.units.proofs.Laws.OneToOne.{outcome-one-to-one}
 use Rattle.entry.specs.Report as error-specs
 use Rattle.entry.specs.declared.call.ErrorAnswer.{ErrorAnswer}
@@ -30,35 +31,35 @@ use Rattle.verdict.proofs.Laws.Report as check-laws
 unique : {A B : Type 0} (f : A → B) → ((a b : A) → f a ≡ f b → a ≡ b) → (stated : B) (a b : A) → f a ≡ stated → f b ≡ stated → a ≡ b
 unique f one stated a b p q = one a b (p ∙ sym q)
 
-pub build-unique : (k m : ℕ) (cells : List ℕ) (a b : Outcome)
-    → backOf a ≡ refusal (tableTests k m (length cells))
-    → backOf b ≡ refusal (tableTests k m (length cells))
+pub build-unique : (s : Shape) (cells : List ℕ) (a b : Outcome)
+    → replyOf a ≡ refusal (tableTests s (length cells))
+    → replyOf b ≡ refusal (tableTests s (length cells))
     → a ≡ b
-build-unique k m cells = unique backOf outcome-one-to-one _
+build-unique s cells = unique replyOf outcome-one-to-one _
 
-pub build-bank-unique : (k m h n : ℕ) (cells : List ℕ) (a b : Outcome)
-    → backOf a ≡ refusal (bankTests k m h n (length cells))
-    → backOf b ≡ refusal (bankTests k m h n (length cells))
+pub build-bank-unique : (s : Shape) (h n : ℕ) (cells : List ℕ) (a b : Outcome)
+    → replyOf a ≡ refusal (bankTests s h n (length cells))
+    → replyOf b ≡ refusal (bankTests s h n (length cells))
     → a ≡ b
-build-bank-unique k m h n cells = unique backOf outcome-one-to-one _
+build-bank-unique s h n cells = unique replyOf outcome-one-to-one _
 
 pub show-bank-number-unique : (k h n : ℕ) (cells : List ℕ) (a b : Outcome)
-    → backOf a ≡ refusal (viewTests k h n (length cells))
-    → backOf b ≡ refusal (viewTests k h n (length cells))
+    → replyOf a ≡ refusal (viewTests k h n (length cells))
+    → replyOf b ≡ refusal (viewTests k h n (length cells))
     → a ≡ b
-show-bank-number-unique k h n cells = unique backOf outcome-one-to-one _
+show-bank-number-unique k h n cells = unique replyOf outcome-one-to-one _
 
-pub entry-error-unique : (k m n f : ℕ) (a b : ErrorAnswer)
-    → error-specs.reported a ≡ error-specs.entryReport k m n f
-    → error-specs.reported b ≡ error-specs.entryReport k m n f
+pub entry-error-unique : (s : Shape) (n f : ℕ) (a b : ErrorAnswer)
+    → error-specs.reported a ≡ error-specs.entryReport s n f
+    → error-specs.reported b ≡ error-specs.entryReport s n f
     → a ≡ b
-entry-error-unique k m n f = unique error-specs.reported error-laws.reported-one-to-one _
+entry-error-unique s n f = unique error-specs.reported error-laws.reported-one-to-one _
 
-pub start-unique : (k m first : ℕ) (a b : Tally)
-    → tally-specs.stateOf a ≡ tally-specs.started k m first
-    → tally-specs.stateOf b ≡ tally-specs.started k m first
+pub start-unique : (s : Shape) (first : ℕ) (a b : Tally)
+    → tally-specs.stateOf a ≡ tally-specs.started s first
+    → tally-specs.stateOf b ≡ tally-specs.started s first
     → a ≡ b
-start-unique k m first = unique tally-specs.stateOf tally-laws.state-one-to-one _
+start-unique s first = unique tally-specs.stateOf tally-laws.state-one-to-one _
 
 pub take-unique : (t : Tally) (f : ℕ) (a b : TallyAnswer)
     → tally-specs.reported a ≡ tally-specs.tallyReport (tally-specs.stateOf t) f
@@ -66,42 +67,42 @@ pub take-unique : (t : Tally) (f : ℕ) (a b : TallyAnswer)
     → a ≡ b
 take-unique t f = unique tally-specs.reported tally-laws.reported-one-to-one _
 
-pub survey-unique : (k m : ℕ) (cells : List ℕ) (a b : SurveyAnswer)
-    → survey-specs.reported a ≡ survey-specs.surveyReport k m cells
-    → survey-specs.reported b ≡ survey-specs.surveyReport k m cells
+pub survey-unique : (s : Shape) (cells : List ℕ) (a b : SurveyAnswer)
+    → survey-specs.reported a ≡ survey-specs.surveyReport s cells
+    → survey-specs.reported b ≡ survey-specs.surveyReport s cells
     → a ≡ b
-survey-unique k m cells = unique survey-specs.reported survey-laws.reported-one-to-one _
+survey-unique s cells = unique survey-specs.reported survey-laws.reported-one-to-one _
 
-pub survey-bank-unique : (k m h n : ℕ) (cells : List ℕ) (a b : SurveyAnswer)
-    → survey-specs.reported a ≡ survey-specs.bankReport k m h n cells
-    → survey-specs.reported b ≡ survey-specs.bankReport k m h n cells
+pub survey-bank-unique : (s : Shape) (h n : ℕ) (cells : List ℕ) (a b : SurveyAnswer)
+    → survey-specs.reported a ≡ survey-specs.bankReport s h n cells
+    → survey-specs.reported b ≡ survey-specs.bankReport s h n cells
     → a ≡ b
-survey-bank-unique k m h n cells = unique survey-specs.reported survey-laws.reported-one-to-one _
+survey-bank-unique s h n cells = unique survey-specs.reported survey-laws.reported-one-to-one _
 
-pub survey-bank-of-unique : (k m h n : ℕ) (table : List ℕ) (a b : SurveyAnswer)
-    → survey-specs.reported a ≡ survey-specs.bankOfReport k m h n table
-    → survey-specs.reported b ≡ survey-specs.bankOfReport k m h n table
+pub survey-bank-of-unique : (s : Shape) (h n : ℕ) (table : List ℕ) (a b : SurveyAnswer)
+    → survey-specs.reported a ≡ survey-specs.bankOfReport s h n table
+    → survey-specs.reported b ≡ survey-specs.bankOfReport s h n table
     → a ≡ b
-survey-bank-of-unique k m h n table = unique survey-specs.reported survey-laws.reported-one-to-one _
+survey-bank-of-unique s h n table = unique survey-specs.reported survey-laws.reported-one-to-one _
 
-pub check-unique : (k m : ℕ) (cells : List ℕ) (a b : CheckAnswer)
-    → check-specs.reported a ≡ check-specs.checkReport k m cells
-    → check-specs.reported b ≡ check-specs.checkReport k m cells
+pub check-unique : (s : Shape) (cells : List ℕ) (a b : CheckAnswer)
+    → check-specs.reported a ≡ check-specs.checkReport s cells
+    → check-specs.reported b ≡ check-specs.checkReport s cells
     → a ≡ b
-check-unique k m cells = unique check-specs.reported check-laws.reported-one-to-one _
+check-unique s cells = unique check-specs.reported check-laws.reported-one-to-one _
 
-pub look-up-unique : (k m x : ℕ) (cells : List ℕ) (a b : LookupAnswer)
-    → lookup-specs.reported a ≡ lookup-specs.lookupReport k m x cells
-    → lookup-specs.reported b ≡ lookup-specs.lookupReport k m x cells
+pub look-up-unique : (s : Shape) (x : ℕ) (cells : List ℕ) (a b : LookupAnswer)
+    → lookup-specs.reported a ≡ lookup-specs.lookupReport s x cells
+    → lookup-specs.reported b ≡ lookup-specs.lookupReport s x cells
     → a ≡ b
-look-up-unique k m x cells = unique lookup-specs.reported lookup-laws.reported-one-to-one _
+look-up-unique s x cells = unique lookup-specs.reported lookup-laws.reported-one-to-one _
 
 -- the contents of cells: what Build and Build a bank leave, and what Show a bank hands out
-pub build-cells-unique : (k m : ℕ) (cells a b : List ℕ) → a ≡ built k m cells → b ≡ built k m cells → a ≡ b
-build-cells-unique k m cells a b p q = p ∙ sym q
+pub build-cells-unique : (s : Shape) (cells a b : List ℕ) → a ≡ built s cells → b ≡ built s cells → a ≡ b
+build-cells-unique s cells a b p q = p ∙ sym q
 
-pub build-bank-cells-unique : (k m h n : ℕ) (cells a b : List ℕ) → a ≡ bankBuilt k m h n cells → b ≡ bankBuilt k m h n cells → a ≡ b
-build-bank-cells-unique k m h n cells a b p q = p ∙ sym q
+pub build-bank-cells-unique : (s : Shape) (h n : ℕ) (cells a b : List ℕ) → a ≡ bankBuilt s h n cells → b ≡ bankBuilt s h n cells → a ≡ b
+build-bank-cells-unique s h n cells a b p q = p ∙ sym q
 
 pub show-bank-unique : (k h n : ℕ) (cells a b : List ℕ) → a ≡ shown k h n cells → b ≡ shown k h n cells → a ≡ b
 show-bank-unique k h n cells a b p q = p ∙ sym q

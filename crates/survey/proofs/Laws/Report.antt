@@ -1,18 +1,28 @@
--- The answers can be read back from their numbers, so no two answers of a call have the same. Assumes nothing.
+-- The answers can be read back from their numbers, so no two answers of a call have the same; and which of their values are zero.
+-- Assumes nothing.
 use mathlib.Core.Path.{_≡_, refl, ap}
 use Rattle.units.specs.declared.kinds.Side.{Side}
 use Rattle.units.proofs.Laws.OneToOne.{one-to-one, sideOf, side-reads, byNumber, refused-reads}
-use Rattle.survey.specs.Finding.{Found}
-use Rattle.survey.specs.Survey.{Report, reported}
-use Rattle.survey.specs.Tally.{findingOf}
+use Rattle.survey.specs.Finding.{Figures}
+use Rattle.survey.specs.Survey.{Report, refused, reported, surveyAfter, surveyReport, bankNamed, bankReport, bankOfReport}
+use Rattle.survey.specs.Tally.{figuresOf}
 use Rattle.survey.specs.declared.tallies.Finding.{Finding}
 use Rattle.survey.specs.declared.surveys.SurveyAnswer.{SurveyAnswer}
 use Rattle.survey.specs.declared.surveys.SurveyAnswer.the-variants.{Surveyed, TooWide, Refused}
+use Prim.Native.Nat.{ℕ, _+_, _<_, _^_}
+use mathlib.Core.List.{List, [], _∷_, _++_}
+use native.Mathlib.Omega.{arith}
+use lib.ListN.{length, take}
+use Rattle.units.specs.Refusals.{Test, fewCells, tableTests}
+use Rattle.units.specs.declared.shapes.Shape.{Shape}
+use Rattle.units.proofs.Laws.Tests.{Each, answer-has}
+use Rattle.table.specs.Banks.{bankSize, bankStart, bankOf}
+use Rattle.table.specs.Wide.{wideAmong}
 
-pub findingBack : Found → Finding
+pub findingBack : Figures → Finding
 findingBack f = record { worst = record { 0 = f .worst }; n = record { 0 = f .n }; side = sideOf (f .side) }
 
-pub finding-reads : (f : Finding) → findingBack (findingOf f) ≡ f
+pub finding-reads : (f : Finding) → findingBack (figuresOf f) ≡ f
 unfolding findingBack
 finding-reads f = ap (λ (s : Side). record { worst = f .worst; n = f .n; side = s }) (side-reads (f .side))
 
@@ -27,3 +37,45 @@ reads (Refused r) = refused-reads r _ _ Refused
 
 pub reported-one-to-one : (a b : SurveyAnswer) → reported a ≡ reported b → a ≡ b
 reported-one-to-one = one-to-one reported answerOf reads
+
+-- "Fields that an answer doesn't use are zero, with any number, 0 and 5 too."
+-- the three surveys: worst and side with 0 alone, n with 0 and 5. Their other tests each give a number only
+pub record SurveyUnused (r : Report) : Type 0 where
+  pub n-with-0-and-5 : 0 < r .number → (r .number ≡ 5 → ⊥) → r .finding .n ≡ 0
+  pub worst-with-0 : 0 < r .number → r .finding .worst ≡ 0
+  pub side-with-0 : 0 < r .number → r .finding .side ≡ 0
+
+abbrev pub NumberOnly : Test → Type 0
+NumberOnly t = t .gives .n ≡ 0
+
+survey-refused : (tests : List Test) (rest : List Test) → Each NumberOnly tests → Each (λ (t : Test). SurveyUnused (refused (t .gives))) rest
+    → Each (λ (t : Test). SurveyUnused (refused (t .gives))) (tests ++ rest)
+survey-refused [] rest only after = after
+survey-refused (t ∷ ts) rest only after = (
+  record { n-with-0-and-5 = λ _ _. only .0; worst-with-0 = λ _. refl; side-with-0 = λ _. refl },
+  survey-refused ts rest (only .1) after,
+)
+
+survey-after-unused : (tests : List Test) → Each NumberOnly tests → (s : Shape) (n : ℕ) (fields : List ℕ) → SurveyUnused (surveyAfter tests s n fields)
+survey-after-unused tests only s n fields =
+    answer-has SurveyUnused refused _ (tests ++ (wideAmong s n fields ∷ []))
+    (survey-refused tests (wideAmong s n fields ∷ []) only
+    (record { n-with-0-and-5 = λ _ not. absurd (not refl); worst-with-0 = λ _. refl; side-with-0 = λ _. refl }, tt))
+    (record { n-with-0-and-5 = λ h. absurd (omega arith); worst-with-0 = λ h. absurd (omega arith); side-with-0 = λ h. absurd (omega arith) })
+
+pub survey-unused : (s : Shape) (cells : List ℕ) → SurveyUnused (surveyReport s cells)
+survey-unused s cells = survey-after-unused (tableTests s (length cells)) (refl, (refl, (refl, tt))) s 0 (take (2 ^ s .k) cells)
+
+pub survey-bank-unused : (s : Shape) (h b : ℕ) (cells : List ℕ) → SurveyUnused (bankReport s h b cells)
+survey-bank-unused s h b cells =
+    survey-after-unused (bankNamed s h b ++ (fewCells (length cells) (bankSize (s .k) h) ∷ [])) (refl, (refl, (refl, (refl, (refl, tt))))) s
+    (bankStart (s .k) h b)
+    (take (bankSize (s .k) h) cells)
+
+pub survey-bank-of-unused : (s : Shape) (h b : ℕ) (table : List ℕ) → SurveyUnused (bankOfReport s h b table)
+survey-bank-of-unused s h b table =
+    survey-after-unused (bankNamed s h b ++ (fewCells (length table) (bankStart (s .k) h b + bankSize (s .k) h) ∷ []))
+    (refl, (refl, (refl, (refl, (refl, tt)))))
+    s
+    (bankStart (s .k) h b)
+    (bankOf (s .k) h b table)

@@ -1,33 +1,79 @@
 -- A survey field by field, from any finding so far. Assumes nothing.
-use Prim.Native.Nat.{ℕ, suc, _^_}
+use Prim.Native.Nat.{ℕ, suc, _+_, _≤_, _<_}
 use mathlib.Core.Bool.{true, false}
-use mathlib.Core.List.{List, [], _∷_}
-use mathlib.Core.Path.{_≡_, refl}
-use lib.Dec.{leb}
-use Rattle.units.specs.Refusals.{back, Test, answer}
+use mathlib.Core.List.{List, [], _∷_, _++_, append-assoc}
+use mathlib.Core.Path.{_≡_, refl, sym, ap, ap₂, _∙_}
+use native.Mathlib.Nat.{add-zero}
+use native.Mathlib.Numerals.{add-one}
+use native.Mathlib.Omega.{arith}
+use lib.ListN.{length, drop, getD, drop-of-length-le}
+use lib.Seq.{drop-cons}
+use Rattle.units.specs.Refusals.{reply, Test, answer}
+use Rattle.units.specs.declared.shapes.Shape.{Shape}
 use Rattle.units.proofs.Laws.Tests.{Passed, rest-answers}
-use Rattle.entry.specs.Wide.{anyWide, firstWide, wideAmong}
-use Rattle.survey.specs.Finding.{Found, fresh, entryFound, larger, found}
+use Rattle.entry.specs.Fields.{isWide}
+use Rattle.table.specs.Wide.{anyWide, firstWide, wideAmong}
+use Rattle.survey.specs.Finding.{Figures, fresh, entryFigures, orLarger, findingOver}
 use Rattle.survey.specs.Survey.{Report, refused, surveyed, surveyAfter}
+use Rattle.survey.specs.Tally.{State, started, talliedAt}
 
 -- what is left of a survey: the fields from interval n on, and the finding so far
-abbrev pub surveyFrom : ℕ → ℕ → ℕ → List ℕ → Found → Report
-surveyFrom k m n fields old = answer refused (surveyed (found k m n fields old)) (wideAmong m n fields ∷ [])
+abbrev pub surveyFrom : Shape → ℕ → List ℕ → Figures → Report
+surveyFrom s n fields old = answer refused (surveyed (findingOver s n fields old)) (wideAmong s n fields ∷ [])
 
-pub at-end : (k m n : ℕ) (old : Found) → surveyFrom k m n [] old ≡ surveyed old
-unfolding answer anyWide found
-at-end k m n old = refl
+none-left : (s : Shape) (n : ℕ) (old : Figures) → surveyFrom s n [] old ≡ surveyed old
+unfolding answer anyWide findingOver
+none-left s n old = refl
 
-pub narrow-field : (k m n f : ℕ) (fs : List ℕ) (old : Found) → leb (2 ^ m) f ≡ false
-    → surveyFrom k m n (f ∷ fs) old ≡ surveyFrom k m (suc n) fs (larger old (entryFound k m n f))
-unfolding answer anyWide firstWide found
-narrow-field k m n f fs old e = simp e
+narrow-first : (s : Shape) (n f : ℕ) (fs : List ℕ) (old : Figures) → isWide s f ≡ false
+    → surveyFrom s n (f ∷ fs) old ≡ surveyFrom s (suc n) fs (orLarger old (entryFigures s n f))
+unfolding answer anyWide firstWide findingOver
+narrow-first s n f fs old e = simp e
 
-pub wide-field : (k m n f : ℕ) (fs : List ℕ) (old : Found) → leb (2 ^ m) f ≡ true → surveyFrom k m n (f ∷ fs) old ≡ refused (back 5 n)
+wide-first : (s : Shape) (n f : ℕ) (fs : List ℕ) (old : Figures) → isWide s f ≡ true → surveyFrom s n (f ∷ fs) old ≡ refused (reply 5 n)
 unfolding answer anyWide firstWide
-wide-field k m n f fs old e = simp e
+wide-first s n f fs old e = simp e
 
--- tests that pass leave the survey as it is
-pub after-passed : (tests : List Test) (k m n : ℕ) (fields : List ℕ) → Passed tests → surveyAfter [] k m n fields ≡ surveyAfter tests k m n fields
-after-passed tests k m n fields p =
-    rest-answers refused (surveyed (found k m n fields fresh)) tests (wideAmong m n fields ∷ []) p
+-- a tally that has taken the cells before `at`, the first of them that of interval `first`: what is left is the whole survey
+pub record Surveying (s : Shape) (first : ℕ) (cells : List ℕ) (t : State) (at : ℕ) : Type 0 where
+  pub within : at ≤ length cells
+  pub shape-is : t .shape ≡ s
+  pub left-is : surveyFrom s (first + at) (drop at cells) (t .finding) ≡ surveyAfter [] s first cells
+
+module _ {s : Shape} {first : ℕ} (cells : List ℕ) where
+  pub surveying-starts : {t : State} → t ≡ started s first → Surveying s first cells t 0
+  surveying-starts {t} begun =
+      record {
+        within = omega arith;
+        shape-is = ap (λ (x : State). x .shape) begun;
+        left-is = ap₂ (λ (n : ℕ) (old : Figures). surveyFrom s n cells old) (add-zero first) (ap (λ (x : State). x .finding) begun);
+      }
+
+  module _ {t : State} {at : ℕ} (v : Surveying s first cells t at) where
+    pub surveying-goes-on : at < length cells → isWide s (getD cells at 0) ≡ false
+        → {next : State} → next ≡ talliedAt t (first + at) (getD cells at 0)
+        → Surveying s first cells next (at + 1)
+    surveying-goes-on inside narrow is =
+        let n : first + (at + 1) ≡ suc (first + at) = omega arith in
+        record {
+          within = omega arith;
+          shape-is = ap (λ (x : State). x .shape) is ∙ v .shape-is;
+          left-is =
+              rw (is, v .shape-is, n, add-one at)
+              (sym (narrow-first s (first + at) (getD cells at 0) (drop (suc at) cells) (t .finding) narrow)
+              ∙ (rw (drop-cons cells at 0 inside) at (v .left-is)));
+        }
+
+    pub surveying-stops : at < length cells → isWide s (getD cells at 0) ≡ true → refused (reply 5 (first + at)) ≡ surveyAfter [] s first cells
+    surveying-stops inside wide =
+        sym (wide-first s (first + at) (getD cells at 0) (drop (suc at) cells) (t .finding) wide) ∙ (rw (drop-cons cells at 0 inside) at (v .left-is))
+
+    pub surveying-ends : length cells ≤ at → surveyed (t .finding) ≡ surveyAfter [] s first cells
+    surveying-ends past = sym (none-left s (first + at) (t .finding)) ∙ (rw (drop-of-length-le cells past) at (v .left-is))
+
+-- tests that pass leave the survey to those after them
+pub after-passed : (tests rest : List Test) (s : Shape) (n : ℕ) (fields : List ℕ) → Passed tests → surveyAfter rest s n fields ≡ surveyAfter (tests ++ rest) s n fields
+after-passed tests rest s n fields p =
+    let wide : List Test = wideAmong s n fields ∷ [] in
+    let finding : Report = surveyed (findingOver s n fields fresh) in
+    rest-answers refused finding tests (rest ++ wide) p ∙ ap (answer refused finding) (sym (append-assoc tests rest wide))

@@ -1,42 +1,80 @@
 -- Where a divisor lies. Assumes nothing.
 use Prim.Native.Nat.{ℕ, _+_, _-_, _*_, _/_, _^_, _≤_, _<_}
-use mathlib.Core.List.{List}
-use mathlib.Core.Path.{_≡_, ap}
+use mathlib.Core.Bool.{true, false}
+use mathlib.Core.List.{List, [], _∷_, _++_}
+use mathlib.Core.Path.{_≡_, refl, sym, ap, subst, _∙_}
 use native.Mathlib.Nat.{le-div-iff-mul-le, div-lt-iff-lt-mul, div-mul-le-self, lt-div-mul-add, mul-le-mul-right, mul-lt-mul-of-pos-right}
 use native.Mathlib.Omega.{arith}
 use borrow.Author.Tests.{le-ltb}
 use lib.ListN.{length, getD}
 use lib.Pow.{pow-pos}
-use Rattle.units.specs.Refusals.{answer}
+use Rattle.units.specs.Refusals.{Test, answer, reply}
+use Rattle.units.specs.declared.shapes.Shape.{Shape}
+use Rattle.units.proofs.Laws.Tests.{passed-parts, passed-also, all-passed, done-by, refused-after, answer-number}
 use Rattle.units.proofs.Laws.Powers.{power-splits}
-use Rattle.entry.specs.Errors.{iOf}
-use Rattle.table.specs.Lookup.{indexOf, lookupReport}
+use Rattle.entry.specs.Errors.{iOf, jOf}
+use Rattle.entry.specs.Everywhere.{Holds}
+use Rattle.entry.specs.Fields.{isWide, tooWide}
+use Rattle.table.specs.Lookup.{Report, refused, lookedUp, indexOf, divisorTests, lookupAt, lookupReport}
+use Rattle.table.specs.Inner.Good.{GoodLookup}
+use Rattle.table.proofs.Laws.Good.{lookup-good, good-lookup}
 
-module _ (k x : ℕ) (narrow : k ≤ 15) (from : 2 ^ 15 ≤ x) (to : x < 2 ^ 16) where
+module _ (s : Shape) (x : ℕ) (narrow : s .k ≤ 15) (from : 2 ^ 15 ≤ x) (to : x < 2 ^ 16) where
   -- X/2^(15-k) has k + 1 bits, and the first of them is set
-  pub quotient-from : 2 ^ k ≤ x / 2 ^ (15 - k)
-  quotient-from = le-div-iff-mul-le (pow-pos (15 - k)) .1 (omega (arith, power-splits narrow))
+  pub quotient-from : 2 ^ s .k ≤ x / 2 ^ (15 - s .k)
+  quotient-from = le-div-iff-mul-le (pow-pos (15 - s .k)) .1 (omega (arith, power-splits narrow))
 
-  pub quotient-to : x / 2 ^ (15 - k) < 2 * 2 ^ k
-  quotient-to = div-lt-iff-lt-mul (pow-pos (15 - k)) .1 (omega (arith, power-splits narrow))
+  pub quotient-to : x / 2 ^ (15 - s .k) < 2 * 2 ^ s .k
+  quotient-to = div-lt-iff-lt-mul (pow-pos (15 - s .k)) .1 (omega (arith, power-splits narrow))
 
-  pub index-below : indexOf k x < 2 ^ k
+  pub index-below : indexOf s x < 2 ^ s .k
   index-below = omega (arith, quotient-from, quotient-to)
 
   -- X's interval contains x = X/32768: i/2^k <= X/2^15 < (i+1)/2^k
-  pub interval-contains : (iOf k (indexOf k x) * 2 ^ 15 ≤ x * 2 ^ k) × (x * 2 ^ k < (iOf k (indexOf k x) + 1) * 2 ^ 15)
+  pub interval-contains : Holds (2 ^ s .k) (iOf s (indexOf s x)) x (2 ^ 15)
   interval-contains =
-      let q : ℕ = x / 2 ^ (15 - k) in
+      let q : ℕ = x / 2 ^ (15 - s .k) in
       let split = power-splits narrow in
-      let left : iOf k (indexOf k x) ≡ x / 2 ^ (15 - k) = omega (arith, quotient-from) in
-      rw left (
-        omega (arith, ap (λ (z : ℕ). q * z) split, mul-le-mul-right (2 ^ k) (div-mul-le-self x (2 ^ (15 - k)))),
-        omega (arith, ap (λ (z : ℕ). (q + 1) * z) split, mul-lt-mul-of-pos-right (lt-div-mul-add {a = x} (pow-pos (15 - k))) (pow-pos k)),
-      )
+      let left : iOf s (indexOf s x) ≡ x / 2 ^ (15 - s .k) = omega (arith, quotient-from) in
+      rw left
+      (record {
+        fraction = pow-pos 15;
+        from = omega (arith, ap (λ (z : ℕ). q * z) split, mul-le-mul-right (2 ^ s .k) (div-mul-le-self x (2 ^ (15 - s .k))));
+        before =
+            omega (
+              arith,
+              ap (λ (z : ℕ). (q + 1) * z) split,
+              mul-lt-mul-of-pos-right (lt-div-mul-add {a = x} (pow-pos (15 - s .k))) (pow-pos (s .k)),
+            );
+      })
+
+-- once every other test passed, the one field decides
+module _ {s : Shape} {x : ℕ} (cells : List ℕ) (good : GoodLookup s x (length cells)) (n : ℕ) where
+  pub field-refused : isWide s (getD cells n 0) ≡ true → refused (reply 5 n) ≡ lookupAt s x cells n
+  field-refused wide =
+      refused-after refused _ (divisorTests s x (length cells)) (tooWide s n (getD cells n 0)) [] (good-lookup good) wide
+
+  pub field-found : isWide s (getD cells n 0) ≡ false → lookedUp n (jOf s (getD cells n 0)) ≡ lookupAt s x cells n
+  field-found narrow =
+      let field : List Test = tooWide s n (getD cells n 0) ∷ [] in
+      done-by refused _ (divisorTests s x (length cells) ++ field)
+      (passed-also (divisorTests s x (length cells)) field (good-lookup good) (narrow, tt))
+
+-- the n that is given is that of the interval that has the divisor
+pub look-up-contains : (s : Shape) (x : ℕ) (cells : List ℕ) → lookupReport s x cells .number ≡ 0
+    → Holds (2 ^ s .k) (iOf s (lookupReport s x cells .n)) x (2 ^ 15)
+look-up-contains s x cells done =
+    let n : ℕ = indexOf s x in
+    let f : ℕ = getD cells n 0 in
+    let tests : List Test = divisorTests s x (length cells) ++ (tooWide s n f ∷ []) in
+    let passed = all-passed tests (omega arith) (sym (answer-number (λ (r : Report). r .number) refused (lookedUp n (jOf s f)) tests (λ b. refl) refl) ∙ done) in
+    let good = lookup-good {s = s} {x = x} {lent = length cells} (passed-parts (divisorTests s x (length cells)) (tooWide s n f ∷ []) passed .0) in
+    subst (λ (r : Report). Holds (2 ^ s .k) (iOf s (r .n)) x (2 ^ 15)) (done-by refused (lookedUp n (jOf s f)) tests passed)
+    (interval-contains s x (good .table .widths .narrow-in) (good .from) (good .to))
 
 -- Document 01: "of all the cells, its answer depends on cell n alone"
-pub lookup-by-one-cell : (k m x : ℕ) (a b : List ℕ) → 2 ^ k ≤ length a → 2 ^ k ≤ length b
-    → getD a (indexOf k x) 0 ≡ getD b (indexOf k x) 0
-    → lookupReport k m x a ≡ lookupReport k m x b
+pub lookup-by-one-cell : (s : Shape) (x : ℕ) (a b : List ℕ) → 2 ^ s .k ≤ length a → 2 ^ s .k ≤ length b
+    → getD a (indexOf s x) 0 ≡ getD b (indexOf s x) 0
+    → lookupReport s x a ≡ lookupReport s x b
 unfolding answer
-lookup-by-one-cell k m x a b long-a long-b e = simp (e, le-ltb (length a) (2 ^ k) long-a, le-ltb (length b) (2 ^ k) long-b)
+lookup-by-one-cell s x a b long-a long-b e = simp (e, le-ltb (length a) (2 ^ s .k) long-a, le-ltb (length b) (2 ^ s .k) long-b)

@@ -5,7 +5,7 @@ use mathlib.Core.Bool.{cond}
 use mathlib.Core.Path.{_≡_, refl, sym, ap, _∙_}
 use lib.Dec.{eqb}
 use Rattle.units.specs.Sides.{sideNumber}
-use Rattle.units.specs.Refusals.{Back, backOf, refusalNumber}
+use Rattle.units.specs.Refusals.{Reply, replyOf, refusalNumber}
 use Rattle.units.specs.declared.kinds.Side.{Side}
 use Rattle.units.specs.declared.kinds.Side.the-variants.{Left, Right, Both}
 use Rattle.units.specs.declared.refusals.Outcome.{Outcome}
@@ -43,13 +43,13 @@ refused-reads Place done wide refused = refl
 refused-reads Divisor done wide refused = refl
 refused-reads Line done wide refused = refl
 
-outcomeOf : Back → Outcome
+outcomeOf : Reply → Outcome
 outcomeOf b = byNumber (b .number) Done Done Refused
 
-outcome-reads : (o : Outcome) → outcomeOf (backOf o) ≡ o
+outcome-reads : (o : Outcome) → outcomeOf (replyOf o) ≡ o
 unfolding outcomeOf
 outcome-reads Done = refl
 outcome-reads (Refused r) = refused-reads r Done Done Refused
 
-pub outcome-one-to-one : (a b : Outcome) → backOf a ≡ backOf b → a ≡ b
-outcome-one-to-one = one-to-one backOf outcomeOf outcome-reads
+pub outcome-one-to-one : (a b : Outcome) → replyOf a ≡ replyOf b → a ≡ b
+outcome-one-to-one = one-to-one replyOf outcomeOf outcome-reads

@@ -1,17 +1,18 @@
 -- Every built table passes the check: its fields are the rule's. Assumes nothing.
 use Prim.Native.Nat.{ℕ}
 use mathlib.Core.List.{List}
-use mathlib.Core.Path.{_≡_, sym, subst}
+use mathlib.Core.Path.{_≡_}
+use native.Mathlib.Omega.{arith}
 use lib.ListN.{length}
-use Rattle.units.specs.Refusals.{tableTests}
-use Rattle.units.proofs.Laws.Tests.{Passed}
+use Rattle.units.specs.Inner.Good.{GoodTable}
+use Rattle.units.specs.declared.shapes.Shape.{Shape}
 use Rattle.table.specs.Build.{built}
 use Rattle.table.proofs.Laws.Built.{built-field, length-built}
 use Rattle.verdict.specs.Check.{passed, checkReport}
 use Rattle.verdict.proofs.Laws.Verdict.{rule-fields-pass}
 
-pub built-passes : (k m : ℕ) (cells : List ℕ) → Passed (tableTests k m (length cells)) → checkReport k m (built k m cells) ≡ passed
-built-passes k m cells done =
-    rule-fields-pass k m (built k m cells)
-    (subst (λ (n : ℕ). Passed (tableTests k m n)) (sym (length-built k m cells done)) done)
-    (λ n inside. built-field k m cells done inside)
+pub built-passes : (s : Shape) (cells : List ℕ) → GoodTable s (length cells) → checkReport s (built s cells) ≡ passed
+built-passes s cells good =
+    rule-fields-pass s (built s cells)
+    (record { widths = good .widths; enough = omega (arith, good .enough, length-built s cells good) })
+    (built-field s cells good)

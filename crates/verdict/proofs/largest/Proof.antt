@@ -5,7 +5,7 @@ use mathlib.Core.Path.{_≡_}
 use native.Mathlib.Omega.{arith}
 use borrow.Author.Needs.{needs}
 use lib.ListN.{length, drop}
-use Rattle.verdict.specs.Largest.{largestOf}
+use Rattle.verdict.specs.Inner.Largest.{largestOf}
 use Rattle.verdict.proofs.Laws.Wide.{largest-past, largest-after}
 use Rattle.verdict.proofs.largest.Statement.{statement}
 use Rattle.verdict.proofs.largest.Tie as tie
@@ -18,21 +18,6 @@ abbrev μ-loop : tie.MeasureT-loop
 
 loop-holds : tie.Need-loop-holds Inv-loop μ-loop
 loop-holds c = (search needs, omega arith)
-
-mul-larger-field : tie.Need-mul-larger-field Inv-loop μ-loop
-mul-larger-field c = search needs
-
-shared-slice-read-larger-field : tie.Need-shared-slice-read-larger-field Inv-loop μ-loop
-shared-slice-read-larger-field c = search needs
-
-larger-field-requires : tie.Need-larger-field-requires Inv-loop μ-loop
-larger-field-requires c κs = search needs
-
-add-at : tie.Need-add-at Inv-loop μ-loop
-add-at c = search needs
-
-loop-less : tie.Need-loop-less Inv-loop μ-loop
-loop-less c = search needs
 
 loop-again : tie.Need-loop-again Inv-loop μ-loop
 loop-again c =
@@ -54,10 +39,10 @@ largest-spec =
     Inv-loop
     μ-loop
     loop-holds
-    mul-larger-field
-    shared-slice-read-larger-field
-    larger-field-requires
-    add-at
-    loop-less
+    (λ c. search needs)
+    (λ c. search needs)
+    (λ c κs. search needs)
+    (λ c. search needs)
+    (λ c. search needs)
     loop-again
     returns)

@@ -1,20 +1,15 @@
 -- `entry::best` meets its contract. Assumes nothing.
-use native.Mathlib.Omega.{arith}
-use Rattle.entry.proofs.Laws.Table.{rule-in-range}
+use mathlib.Core.Path.{ap, _∙_}
+use Rattle.entry.specs.Errors.{jOf}
+use Rattle.entry.proofs.Laws.Table.{rule-field-is}
 use borrow.Author.Needs.{needs}
 use Rattle.entry.proofs.choice.best.Statement.{statement}
 use Rattle.entry.proofs.choice.best.Tie as tie
 
-best-field-requires : tie.Need-best-field-requires
-best-field-requires c κs = search needs
-
-entry-of-requires : tie.Need-entry-of-requires
-entry-of-requires c κs = search needs
-
 returns : tie.Need-returns
 returns c =
     let start = c .before .before in
-    omega (arith, c .entry-of .ensures, c .before .best-field .ensures, rule-in-range (start .args .k) (start .args .m) (start .pre .interval) .0)
+    c .entry-of .ensures ∙ ap (jOf (start .args .shape)) (c .before .best-field .ensures) ∙ rule-field-is (start .args .shape) (start .pre .interval)
 
 pub best-spec : {M : Type 1} → statement M
-best-spec = tie.close (tie.spec best-field-requires entry-of-requires returns)
+best-spec = tie.close (tie.spec (λ c κs. search needs) (λ c κs. search needs) returns)

@@ -5,9 +5,6 @@ use Rattle.entry.proofs.Laws.Worst.{dist, size-of-difference}
 use Rattle.entry.proofs.measure.apart.Statement.{statement}
 use Rattle.entry.proofs.measure.apart.Tie as tie
 
-sub-t5 : tie.Need-sub-t5
-sub-t5 c = search needs
-
 returns : tie.Need-returns
 unfolding dist
 returns c = rw size-of-difference (omega arith)
@@ -17,4 +14,4 @@ unfolding dist
 returns-2 c = rw size-of-difference (omega arith)
 
 pub apart-spec : {M : Type 1} → statement M
-apart-spec = tie.close (tie.spec sub-t5 returns returns-2)
+apart-spec = tie.close (tie.spec (λ c. search needs) returns returns-2)

@@ -23,12 +23,6 @@ unfolding dist
 difference-fits a b p q =
     record { sfits = omega (arith, mag-within (pos a -ℤ pos b), size-of-difference a b) }
 
-cast-t3 : tie.Need-cast-t3
-cast-t3 c = search needs
-
-cast-t4 : tie.Need-cast-t4
-cast-t4 c = search needs
-
 sub-t5 : tie.Need-sub-t5
 sub-t5 c =
     simp (toZ-pos w64 (c .pre .0), toZ-pos w64 (c .pre .1))
@@ -40,4 +34,4 @@ returns c =
     (toZ-ofZ (difference-fits (c .args .a) (c .args .b) (c .pre .0) (c .pre .1)))
 
 pub difference-spec : {M : Type 1} → statement M
-difference-spec = tie.close (tie.spec cast-t3 cast-t4 sub-t5 returns)
+difference-spec = tie.close (tie.spec (λ c. search needs) (λ c. search needs) sub-t5 returns)

@@ -18,35 +18,17 @@ abbrev μ-loop : tie.MeasureT-loop
 loop-holds : tie.Need-loop-holds Inv-loop μ-loop
 loop-holds c = (omega arith, λ r p. omega (arith, places-are 19 (c .args .n) r (omega arith) p))
 
-add-passed : tie.Need-add-passed Inv-loop μ-loop
-add-passed c = search needs
-
-loop-less : tie.Need-loop-less Inv-loop μ-loop
-loop-less c = search needs
-
 loop-again : tie.Need-loop-again Inv-loop μ-loop
 loop-again c = (omega arith, λ r p. omega (arith, c .before .loop .inv .1 (r + 4) (fewest-more 4 (omega arith) p)))
-
-add-result : tie.Need-add-result Inv-loop μ-loop
-add-result c = search needs
 
 returns : tie.Need-returns Inv-loop μ-loop
 returns c = c .before .before .loop .inv .1 1 (omega arith, omega arith, λ more. omega arith)
 
-add-result-2 : tie.Need-add-result-2 Inv-loop μ-loop
-add-result-2 c = search needs
-
 returns-2 : tie.Need-returns-2 Inv-loop μ-loop
 returns-2 c = c .before .before .before .loop .inv .1 2 (omega arith, omega arith, λ more. omega arith)
 
-add-result-3 : tie.Need-add-result-3 Inv-loop μ-loop
-add-result-3 c = search needs
-
 returns-3 : tie.Need-returns-3 Inv-loop μ-loop
 returns-3 c = c .before .before .before .before .loop .inv .1 3 (omega arith, omega arith, λ more. omega arith)
-
-add-result-4 : tie.Need-add-result-4 Inv-loop μ-loop
-add-result-4 c = search needs
 
 returns-4 : tie.Need-returns-4 Inv-loop μ-loop
 returns-4 c = c .before .before .before .before .loop .inv .1 4 (omega arith, omega arith, λ more. omega arith)
@@ -58,14 +40,14 @@ places-spec =
     Inv-loop
     μ-loop
     loop-holds
-    add-passed
-    loop-less
+    (λ c. search needs)
+    (λ c. search needs)
     loop-again
-    add-result
+    (λ c. search needs)
     returns
-    add-result-2
+    (λ c. search needs)
     returns-2
-    add-result-3
+    (λ c. search needs)
     returns-3
-    add-result-4
+    (λ c. search needs)
     returns-4)

@@ -19,36 +19,12 @@ abbrev μ-loop : tie.MeasureT-loop
 loop-holds : tie.Need-loop-holds Inv-loop μ-loop
 loop-holds c = (omega arith, (refl, refl))
 
-sub-left : tie.Need-sub-left Inv-loop μ-loop
-sub-left c = search needs
-
-cast-page : tie.Need-cast-page Inv-loop μ-loop
-cast-page c = search needs
-
-add-page : tie.Need-add-page Inv-loop μ-loop
-add-page c = search needs
-
-add-page-2 : tie.Need-add-page-2 Inv-loop μ-loop
-add-page-2 c = search needs
-
-slice-write-page : tie.Need-slice-write-page Inv-loop μ-loop
-slice-write-page c = search needs
-
-loop-less : tie.Need-loop-less Inv-loop μ-loop
-loop-less c = search needs
-
 loop-again : tie.Need-loop-again Inv-loop μ-loop
 loop-again c =
     let start = c .before .before in
     let here = c .before .loop in
     let last = spelled-last 10 (here .page) (start .args .at) (here .left) (here .rest) (omega arith) (omega (arith, start .pre, here .inv .1 .0)) in
     (omega arith, (simp length-set (here .inv .1 .0), rw (lt-ltb (here .rest % 10) 10 (omega arith)) at last ∙ here .inv .1 .1))
-
-add-result : tie.Need-add-result Inv-loop μ-loop
-add-result c = search needs
-
-same-length : tie.Need-same-length Inv-loop μ-loop
-same-length c = search needs
 
 returns : tie.Need-returns Inv-loop μ-loop
 returns c =
@@ -66,13 +42,13 @@ put-digits-spec =
     Inv-loop
     μ-loop
     loop-holds
-    sub-left
-    cast-page
-    add-page
-    add-page-2
-    slice-write-page
-    loop-less
+    (λ c. search needs)
+    (λ c. search needs)
+    (λ c. search needs)
+    (λ c. search needs)
+    (λ c. search needs)
+    (λ c. search needs)
     loop-again
-    add-result
-    same-length
+    (λ c. search needs)
+    (λ c. search needs)
     returns)

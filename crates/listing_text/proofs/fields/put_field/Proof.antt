@@ -4,16 +4,9 @@ use native.Mathlib.Omega.{arith}
 use borrow.Author.Needs.{needs}
 use Rattle.listing_text.specs.Text.{decimal}
 use Rattle.listing_text.proofs.Laws.Decimal.{places-at-most}
-use Rattle.listing_text.proofs.Laws.Spelled.{length-digits}
-use Rattle.listing_text.proofs.Laws.Put.{put-then}
+use Rattle.listing_text.proofs.Laws.Put.{put-then, put-within}
 use Rattle.listing_text.proofs.fields.put_field.Statement.{statement}
 use Rattle.listing_text.proofs.fields.put_field.Tie as tie
-
-put-requires : tie.Need-put-requires
-put-requires c κs = search needs
-
-places-requires : tie.Need-places-requires
-places-requires c κs = search needs
 
 put-digits-requires : tie.Need-put-digits-requires
 put-digits-requires c κs =
@@ -21,19 +14,14 @@ put-digits-requires c κs =
     let start = c .before .before .before .before .before .before .before .before in
     omega (arith, c .before .places .ensures, places-at-most 20 (start .args .n), first .size, first .end-is, start .pre)
 
-same-length : tie.Need-same-length
-same-length c = search needs
-
 returns : tie.Need-returns
 unfolding decimal
 returns c =
     let second = c .before .before .put-digits .ensures in
     let count = c .before .before .before .before .places in
     let first = c .before .before .before .before .before .before .before .put .ensures in
-    let n = c .before .before .before .before .before .before .before .before .before .before .before .args .n in (
-      rw (sym (count .ensures)) (put-then first second),
-      omega (arith, first .end-is, second .end-is, length-digits 10 (count .result) n, count .ensures, places-at-most 20 n),
-    )
+    let n = c .before .before .before .before .before .before .before .before .before .before .before .args .n in
+    rw (sym (count .ensures)) (put-within (omega (arith, count .ensures, places-at-most 20 n)) (put-then first second))
 
 pub put-field-spec : {M : Type 1} → statement M
-put-field-spec = tie.close (tie.spec put-requires places-requires put-digits-requires same-length returns)
+put-field-spec = tie.close (tie.spec (λ c κs. search needs) (λ c κs. search needs) put-digits-requires (λ c. search needs) returns)

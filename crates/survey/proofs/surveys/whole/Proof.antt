@@ -1,83 +1,51 @@
 -- `survey::whole` meets its contract: its tests are those of `surveyReport`, and the fields are the first 2^k cells. Assumes nothing.
-use Prim.Native.Nat.{ℕ, _-_, _^_}
-use mathlib.Core.List.{[]}
-use mathlib.Core.Path.{_≡_, sym, ap, _∙_}
+use Prim.Native.Nat.{_^_}
+use mathlib.Core.List.{[], _∷_}
+use mathlib.Core.Path.{_∙_}
+use native.Mathlib.Nat.{sub-zero}
 use native.Mathlib.Omega.{arith}
 use borrow.Author.Needs.{needs}
-use borrow.Author.Tests.{ltb-false}
-use lib.ListN.{length, take, length-take}
-use Rattle.units.specs.Refusals.{backOf, tableTests}
-use Rattle.units.proofs.Laws.Tests.{Passed, passed, refused-by, refusal-numbered, not-outside}
-use Rattle.survey.specs.Survey.{refused, surveyAfter}
+use lib.ListN.{length}
+use Rattle.units.specs.Inner.Good.{GoodWidths}
+use Rattle.units.specs.Refusals.{fewCells, widthTests}
+use Rattle.units.proofs.Laws.Good.{widths-good, good-widths}
+use Rattle.units.proofs.Laws.Tests.{done-so, refused-so}
+use Rattle.survey.specs.Survey.{refused}
 use Rattle.survey.proofs.Laws.Scan.{after-passed}
 use Rattle.survey.proofs.surveys.whole.Statement.{statement}
 use Rattle.survey.proofs.surveys.whole.Tie as tie
 
-whole-table-requires : tie.Need-whole-table-requires
-whole-table-requires c κs = search needs
-
-enum-known-r : tie.Need-enum-known-r
-enum-known-r c = search needs
-
 enum-told : tie.Need-enum-told
 enum-told c = search needs
 
--- every test but that of the fields passed
-good : (c : tie.After-enum-told)
-    → Passed
-    (tableTests
-    (c .before .before .before .before .args .k)
-    (c .before .before .before .before .args .m)
-    (length (c .before .before .before .before .args .table .now)))
-good c = passed _ (omega arith) (sym (ap backOf (c .enum-told .given .1)) ∙ c .before .before .whole-table .ensures)
+good : (c : tie.After-enum-told) → GoodWidths (c .before .before .before .before .args .shape)
+good c = widths-good (done-so (widthTests _) (omega arith) (c .enum-told .given .1) (c .before .before .widths .ensures))
 
 power-requires : tie.Need-power-requires
-power-requires c κs = omega (arith, not-outside _ _ _ (good c .0))
+power-requires c κs = omega (arith, good c)
 
-sub-survey-fields : tie.Need-sub-survey-fields
-sub-survey-fields c = search needs
-
-part-survey-fields-start : tie.Need-part-survey-fields-start
-part-survey-fields-start c = search needs
-
-part-survey-fields-end : tie.Need-part-survey-fields-end
-part-survey-fields-end c =
-    let args = c .before .before .before .before .before .args in
-    omega (arith, c .power .ensures, ltb-false (length (args .table .now)) (2 ^ args .k) (good (c .before) .1 .1 .0))
-
-survey-fields-requires : tie.Need-survey-fields-requires
-survey-fields-requires c κs =
-    let tests = good (c .before .before) in (
-      not-outside _ _ _ (tests .0) .1,
-      (not-outside _ _ _ (tests .1 .0) .1, simp length-take (omega (arith, c .before .power .ensures))),
-    )
+survey-part-requires : tie.Need-survey-part-requires
+survey-part-requires c κs = (good (c .before), omega (arith, c .power .ensures))
 
 returns : tie.Need-returns
-returns c =
-    refused-by refused _ (tableTests _ _ _) _
-    (sym (ap backOf (c .before .r .given .1)) ∙ c .before .before .before .whole-table .ensures)
-    (refusal-numbered (c .before .r .given .0 .0))
+returns c = refused-so refused _ (widthTests _) _ (c .before .r .given .0 .0) (c .before .r .given .1) (c .before .before .before .widths .ensures)
 
 returns-2 : tie.Need-returns-2
 returns-2 c =
-    let args = c .before .before .before .before .before .before .before .args in
-    let size : c .before .before .power .result - 0 ≡ 2 ^ args .k = omega (arith, c .before .before .power .ensures) in
-    c .survey-fields .ensures
-    ∙ ap (λ (n : ℕ). surveyAfter [] (args .k) (args .m) 0 (take n (args .table .now))) size
-    ∙ after-passed (tableTests (args .k) (args .m) (length (args .table .now))) (args .k) (args .m) 0 (take (2 ^ args .k) (args .table .now))
-    (good (c .before .before .before))
+    let power = c .before in
+    let args = power .before .before .before .before .before .args in
+    let s = args .shape in
+    (rw (power .power .ensures, sub-zero (2 ^ s .k)) at (c .survey-part .ensures))
+    ∙ after-passed (widthTests s) (fewCells (length (args .table .now)) (2 ^ s .k) ∷ []) s 0 _ (good-widths (good (power .before)))
 
 pub whole-spec : {M : Type 1} → statement M
 whole-spec =
     tie.close
     (tie.spec
-    whole-table-requires
-    enum-known-r
+    (λ c κs. search needs)
+    (λ c. search needs)
     enum-told
     power-requires
-    sub-survey-fields
-    part-survey-fields-start
-    part-survey-fields-end
-    survey-fields-requires
+    survey-part-requires
     returns
     returns-2)

@@ -1,26 +1,21 @@
 -- `table::bank_at` meets its contract: a bank lies within the 2^k cells of its table, which are 2^15 at most. Assumes nothing.
+use Prim.Native.Nat.{_+_, _*_, _^_, _≤_}
 use mathlib.Core.Path.{refl}
 use native.Mathlib.Omega.{arith}
-use borrow.Author.Needs.{needs}
 use lib.Pow.{pow-mono}
 use Rattle.table.proofs.Laws.Banks.{bank-within}
+use borrow.Author.Needs.{needs}
 use Rattle.table.proofs.banks.bank_at.Statement.{statement}
 use Rattle.table.proofs.banks.bank_at.Tie as tie
 
-sub-power : tie.Need-sub-power
-sub-power c = search needs
-
-power-requires : tie.Need-power-requires
-power-requires c κs = search needs
-
-mul-first : tie.Need-mul-first
-mul-first c = rw (c .power .ensures) (omega (arith, bank-within (c .before .args .k) (c .before .args .h) (c .before .args .b) (c .before .pre .1 .0) (c .before .pre .1 .1), pow-mono (c .before .pre .0)))
-
-add-t8 : tie.Need-add-t8
-add-t8 c = rw (c .power .ensures) (omega (arith, bank-within (c .before .args .k) (c .before .args .h) (c .before .args .b) (c .before .pre .1 .0) (c .before .pre .1 .1), pow-mono (c .before .pre .0)))
+within : (c : tie.After-power) → c .before .args .b * c .power .result + c .power .result ≤ 2 ^ 15
+within c =
+    let start = c .before in
+    rw (c .power .ensures)
+    (omega (arith, bank-within (start .args .k) (start .args .h) (start .args .b) (start .pre .low) (start .pre .number), pow-mono (start .pre .narrow)))
 
 returns : tie.Need-returns
 returns c = rw (c .power .ensures) (refl, refl)
 
 pub bank-at-spec : {M : Type 1} → statement M
-bank-at-spec = tie.close (tie.spec sub-power power-requires mul-first add-t8 returns)
+bank-at-spec = tie.close (tie.spec (λ c. search needs) (λ c κs. search needs) (λ c. omega (arith, within c)) (λ c. omega (arith, within c)) returns)

@@ -1,21 +1,12 @@
 -- `table::viewable` meets its contract: the test of k, and after it those of the bank. Assumes nothing.
 use mathlib.Core.List.{[], _∷_}
 use native.Mathlib.Omega.{arith}
-use borrow.Author.Needs.{needs}
 use Rattle.units.specs.Refusals.{inputWidth}
 use Rattle.units.proofs.Laws.Tests.{then-is}
 use Rattle.table.specs.Banks.{bankPlace}
+use borrow.Author.Needs.{needs}
 use Rattle.table.proofs.views.viewable.Statement.{statement}
 use Rattle.table.proofs.views.viewable.Tie as tie
-
-input-width-requires : tie.Need-input-width-requires
-input-width-requires c κs = search needs
-
-bank-in-table-requires : tie.Need-bank-in-table-requires
-bank-in-table-requires c κs = search needs
-
-then-requires : tie.Need-then-requires
-then-requires c κs = search needs
 
 returns : tie.Need-returns
 returns c =
@@ -26,4 +17,4 @@ returns c =
 
 pub viewable-spec : {M : Type 1} → statement M
 viewable-spec =
-    tie.close (tie.spec input-width-requires bank-in-table-requires then-requires returns)
+    tie.close (tie.spec (λ c κs. search needs) (λ c κs. search needs) (λ c κs. search needs) returns)

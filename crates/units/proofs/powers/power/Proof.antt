@@ -8,11 +8,8 @@ use lib.Pow.{shl-exact}
 use Rattle.units.proofs.powers.power.Statement.{statement}
 use Rattle.units.proofs.powers.power.Tie as tie
 
-shl-result : tie.Need-shl-result
-shl-result c = search needs
-
 returns : tie.Need-returns
 returns c = shl-exact 1 (c .args .k) 64 (omega arith) (omega arith) ∙ one-mul _
 
 pub power-spec : {M : Type 1} → statement M
-power-spec = tie.close (tie.spec shl-result returns)
+power-spec = tie.close (tie.spec (λ c. search needs) returns)

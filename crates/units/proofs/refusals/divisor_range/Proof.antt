@@ -4,14 +4,8 @@ use borrow.Author.Needs.{needs}
 use Rattle.units.proofs.refusals.divisor_range.Statement.{statement}
 use Rattle.units.proofs.refusals.divisor_range.Tie as tie
 
-is-outside-requires : tie.Need-is-outside-requires
-is-outside-requires c κs = search needs
-
-refused-if-requires : tie.Need-refused-if-requires
-refused-if-requires c κs = search needs
-
 returns : tie.Need-returns
 returns c = rw (sym (c .before .is-outside .ensures)) (c .refused-if .ensures)
 
 pub divisor-range-spec : {M : Type 1} → statement M
-divisor-range-spec = tie.close (tie.spec is-outside-requires refused-if-requires returns)
+divisor-range-spec = tie.close (tie.spec (λ c κs. search needs) (λ c κs. search needs) returns)

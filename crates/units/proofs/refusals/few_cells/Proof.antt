@@ -7,9 +7,6 @@ use Rattle.units.specs.Refusals.{answer}
 use Rattle.units.proofs.refusals.few_cells.Statement.{statement}
 use Rattle.units.proofs.refusals.few_cells.Tie as tie
 
-reaches-requires : tie.Need-reaches-requires
-reaches-requires c κs = search needs
-
 returns : tie.Need-returns
 unfolding answer
 returns c =
@@ -23,4 +20,4 @@ returns-2 c =
     simp (lt-ltb (start .args .lent) (2 ^ start .args .w) (leb-false _ _ (sym (c .before .reaches .ensures) ∙ c .if1 .left)))
 
 pub few-cells-spec : {M : Type 1} → statement M
-few-cells-spec = tie.close (tie.spec reaches-requires returns returns-2)
+few-cells-spec = tie.close (tie.spec (λ c κs. search needs) returns returns-2)

@@ -11,11 +11,8 @@ use Rattle.units.proofs.refusals.reaches.Tie as tie
 returns : tie.Need-returns
 returns c = sym (lt-leb (2 ^ c .before .args .w) (c .before .args .x) (omega (arith, pow-mono (c .if1 .taken))))
 
-power-requires : tie.Need-power-requires
-power-requires c κs = search needs
-
 returns-2 : tie.Need-returns-2
 returns-2 c = rw (c .power .ensures)
 
 pub reaches-spec : {M : Type 1} → statement M
-reaches-spec = tie.close (tie.spec returns power-requires returns-2)
+reaches-spec = tie.close (tie.spec returns (λ c κs. search needs) returns-2)

@@ -4,14 +4,8 @@ use borrow.Author.Needs.{needs}
 use Rattle.units.proofs.refusals.refused_width.Statement.{statement}
 use Rattle.units.proofs.refusals.refused_width.Tie as tie
 
-no-width-requires : tie.Need-no-width-requires
-no-width-requires c κs = search needs
-
-refused-if-requires : tie.Need-refused-if-requires
-refused-if-requires c κs = search needs
-
 returns : tie.Need-returns
 returns c = rw (sym (c .before .no-width .ensures)) (c .refused-if .ensures)
 
 pub refused-width-spec : {M : Type 1} → statement M
-refused-width-spec = tie.close (tie.spec no-width-requires refused-if-requires returns)
+refused-width-spec = tie.close (tie.spec (λ c κs. search needs) (λ c κs. search needs) returns)

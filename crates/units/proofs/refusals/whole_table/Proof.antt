@@ -5,23 +5,14 @@ use Rattle.units.specs.Refusals.{answer}
 use Rattle.units.proofs.refusals.whole_table.Statement.{statement}
 use Rattle.units.proofs.refusals.whole_table.Tie as tie
 
-no-width-requires : tie.Need-no-width-requires
-no-width-requires c κs = search needs
-
 returns : tie.Need-returns
 unfolding answer
 returns c = rw (sym (c .before .no-width .ensures) ∙ c .if1 .taken)
-
-no-width-requires-2 : tie.Need-no-width-requires-2
-no-width-requires-2 c κs = search needs
 
 returns-2 : tie.Need-returns-2
 unfolding answer
 returns-2 c =
     rw (sym (c .before .before .before .no-width .ensures) ∙ c .before .before .if1 .left, sym (c .before .no-width2 .ensures) ∙ c .if2 .taken)
-
-few-cells-requires : tie.Need-few-cells-requires
-few-cells-requires c κs = search needs
 
 returns-3 : tie.Need-returns-3
 unfolding answer
@@ -34,4 +25,4 @@ returns-3 c =
 pub whole-table-spec : {M : Type 1} → statement M
 whole-table-spec =
     tie.close
-    (tie.spec no-width-requires returns no-width-requires-2 returns-2 few-cells-requires returns-3)
+    (tie.spec (λ c κs. search needs) returns (λ c κs. search needs) returns-2 (λ c κs. search needs) returns-3)

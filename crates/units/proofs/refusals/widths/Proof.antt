@@ -7,19 +7,10 @@ use Rattle.units.proofs.Laws.Tests.{then-is}
 use Rattle.units.proofs.refusals.widths.Statement.{statement}
 use Rattle.units.proofs.refusals.widths.Tie as tie
 
-input-width-requires : tie.Need-input-width-requires
-input-width-requires c κs = search needs
-
-output-width-requires : tie.Need-output-width-requires
-output-width-requires c κs = search needs
-
-then-requires : tie.Need-then-requires
-then-requires c κs = search needs
-
 returns : tie.Need-returns
 returns c =
     then-is (inputWidth _ ∷ []) (outputWidth _ ∷ []) (omega arith) (c .then .ensures) (c .before .before .input-width .ensures)
     (c .before .output-width .ensures)
 
 pub widths-spec : {M : Type 1} → statement M
-widths-spec = tie.close (tie.spec input-width-requires output-width-requires then-requires returns)
+widths-spec = tie.close (tie.spec (λ c κs. search needs) (λ c κs. search needs) (λ c κs. search needs) returns)

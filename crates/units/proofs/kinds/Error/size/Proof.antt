@@ -81,8 +81,5 @@ kept (negsuc n) fits e = absurd (true≢false e)
 cast-t8 : tie.Need-cast-t8
 cast-t8 c = rw (toZ-ofZ (fits (c .before))) (kept _ (fits (c .before)) (rw (toZ-ofZ (fits (c .before))) at (c .if1 .left)))
 
-returns-2 : tie.Need-returns-2
-returns-2 c = search needs
-
 pub size-spec : {M : Type 1} → statement M
-size-spec = tie.close (tie.spec add-t4 sub-t5 cast-t6 add-t7 returns cast-t8 returns-2)
+size-spec = tie.close (tie.spec add-t4 sub-t5 cast-t6 add-t7 returns cast-t8 (λ c. search needs))

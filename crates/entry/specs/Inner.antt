@@ -1,0 +1,2 @@
+pub mod Good
+pub mod Quotient

@@ -1,0 +1,28 @@
+-- The two numbers whose quotient, rounded down, is the builder's field, and how they move on from interval to interval.
+-- Assumes nothing.
+use Prim.Native.Nat.{ℕ, _+_, _-_, _*_, _^_}
+use mathlib.Core.Path.{_≡_}
+use Rattle.units.specs.declared.shapes.Shape.{Shape}
+use Rattle.entry.specs.Errors.{unit, iOf}
+use Rattle.entry.specs.declared.quotients.Quotient.{Quotient}
+
+-- at interval n: the divisor, and the dividend with the 2^m divisors that a field leaves out
+abbrev pub divisor : Shape → ℕ → ℕ
+divisor s n = 2 * iOf s n + 1
+
+abbrev pub dividend : Shape → ℕ → ℕ
+dividend s n = 2 * unit s + iOf s n
+
+-- from one interval to the next
+abbrev pub rise : Shape → ℕ
+rise s = 2
+
+abbrev pub fall : Shape → ℕ
+fall s = 2 ^ (s .m + 1) - 1
+
+-- as they stand before interval n comes
+pub record Before (s : Shape) (n : ℕ) (q : Quotient) : Type 0 where
+  pub by-is : q .by + rise s ≡ divisor s n
+  pub over-is : q .over + divisor s n * 2 ^ s .m ≡ dividend s n + fall s
+  pub rise-is : q .rise ≡ rise s
+  pub fall-is : q .fall ≡ fall s

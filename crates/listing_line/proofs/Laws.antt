@@ -1,0 +1,3 @@
+pub mod Line
+pub mod Grammar
+pub mod Report

@@ -1,0 +1,5 @@
+// The listing's input line.
+mod line;
+
+pub use line::Reading;
+pub use line::read_line;

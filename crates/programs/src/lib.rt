@@ -1,0 +1,13 @@
+// What the programs over the library share: writing, the digest of cells, and a table's buffer.
+mod cells;
+mod writing;
+
+pub use cells::digest_of;
+pub use cells::stir;
+pub use cells::stir_cells;
+pub use cells::zeroed;
+pub use writing::column;
+pub use writing::labelled;
+pub use writing::long_column;
+pub use writing::number;
+pub use writing::text;

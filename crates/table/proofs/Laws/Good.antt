@@ -1,0 +1,71 @@
+-- The facts of a list of tests that passed, by name, and the list from its facts. Assumes nothing.
+use Prim.Native.Nat.{ℕ, _^_, _≤_, _<_}
+use mathlib.Core.List.{List, [], _∷_}
+use native.Mathlib.Omega.{arith}
+use borrow.Author.Tests.{ltb-false, leb-false, le-ltb, lt-leb}
+use lib.ListN.{length, take}
+use Rattle.units.specs.Refusals.{widthTests, tableTests, fewCells, divisor}
+use Rattle.units.specs.Inner.Good.{GoodWidths, GoodTable}
+use Rattle.units.specs.declared.shapes.Shape.{Shape}
+use Rattle.units.proofs.Laws.Good.{widths-good, good-widths, table-good, good-table}
+use Rattle.units.proofs.Laws.Tests.{Passed, passed-parts, passed-also, not-outside, within}
+use Rattle.table.specs.Banks.{bankName, bankPlace, viewTests}
+use Rattle.table.specs.Build.{bankTests}
+use Rattle.table.specs.Inner.Good.{GoodBank, GoodView, GoodBuild, GoodFields, GoodLookup}
+use Rattle.table.specs.Lookup.{divisorTests}
+use Rattle.table.specs.Wide.{wideAmong, fieldTests}
+
+module _ {k h b : ℕ} where
+  pub bank-good : k ≤ 15 → Passed (bankName k h b) → GoodBank k h b
+  bank-good narrow p = record { narrow = narrow; low = ltb-false k h (p .0); number = leb-false (2 ^ h) b (p .1 .0) }
+
+  pub good-bank : GoodBank k h b → Passed (bankName k h b)
+  good-bank g = (le-ltb k h (g .low), (lt-leb (2 ^ h) b (g .number), tt))
+
+  module _ {lent : ℕ} where
+    place-good : k ≤ 15 → Passed (bankPlace k h b lent) → GoodView k h b lent
+    place-good narrow p =
+        let parts = passed-parts (bankName k h b) (fewCells lent (2 ^ k) ∷ []) p in
+        record { bank = bank-good narrow (parts .0); enough = ltb-false lent (2 ^ k) (parts .1 .0) }
+
+    good-place : GoodView k h b lent → Passed (bankPlace k h b lent)
+    good-place g =
+        passed-also (bankName k h b) (fewCells lent (2 ^ k) ∷ []) (good-bank (g .bank)) (le-ltb lent (2 ^ k) (g .enough), tt)
+
+    pub view-good : Passed (viewTests k h b lent) → GoodView k h b lent
+    view-good p = place-good (not-outside 1 15 k (p .0) .1) (p .1)
+
+    pub good-view : 1 ≤ k → GoodView k h b lent → Passed (viewTests k h b lent)
+    good-view some g = (within 1 15 k some (g .bank .narrow), good-place g)
+
+module _ {s : Shape} {h b lent : ℕ} where
+  pub build-good : Passed (bankTests s h b lent) → GoodBuild s h b lent
+  build-good p =
+      let parts = passed-parts (widthTests s) (bankPlace (s .k) h b lent) p in
+      let widths = widths-good (parts .0) in
+      record { widths = widths; view = place-good (widths .narrow-in) (parts .1) }
+
+  pub good-build : GoodBuild s h b lent → Passed (bankTests s h b lent)
+  good-build g = passed-also (widthTests s) (bankPlace (s .k) h b lent) (good-widths (g .widths)) (good-place (g .view))
+
+module _ {s : Shape} {cells : List ℕ} where
+  pub fields-good : Passed (fieldTests s cells) → GoodFields s cells
+  fields-good p =
+      let parts = passed-parts (tableTests s (length cells)) (wideAmong s 0 (take (2 ^ s .k) cells) ∷ []) p in
+      record { table = table-good (parts .0); narrow = parts .1 .0 }
+
+  pub good-fields : GoodFields s cells → Passed (fieldTests s cells)
+  good-fields g =
+      passed-also (tableTests s (length cells)) (wideAmong s 0 (take (2 ^ s .k) cells) ∷ []) (good-table (g .table)) (g .narrow, tt)
+
+module _ {s : Shape} {x lent : ℕ} where
+  pub lookup-good : Passed (divisorTests s x lent) → GoodLookup s x lent
+  lookup-good p =
+      let parts = passed-parts (tableTests s lent) (divisor x ∷ []) p in
+      let range = not-outside 32768 65535 x (parts .1 .0) in
+      record { table = table-good (parts .0); from = range .0; to = omega (arith, range .1) }
+
+  pub good-lookup : GoodLookup s x lent → Passed (divisorTests s x lent)
+  good-lookup g =
+      passed-also (tableTests s lent) (divisor x ∷ []) (good-table (g .table))
+      (within 32768 65535 x (g .from) (omega (arith, g .to)), tt)

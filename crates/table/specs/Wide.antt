@@ -1,0 +1,26 @@
+-- Number 5 over a list of fields: "number and the smallest such n". Document 01, "Refusal numbers and their order".
+-- Assumes nothing.
+use Prim.Native.Nat.{ℕ, suc, _^_}
+use mathlib.Core.Bool.{Bool, false, _||_, cond}
+use mathlib.Core.List.{List, [], _∷_, _++_}
+use lib.ListN.{length, take}
+use Rattle.units.specs.Refusals.{Test, test, reply, tableTests}
+use Rattle.units.specs.declared.shapes.Shape.{Shape}
+use Rattle.entry.specs.Fields.{isWide}
+
+-- whether one of the fields is over-wide
+unfoldable pub anyWide : Shape → List ℕ → Bool
+anyWide s [] = false
+anyWide s (f ∷ fs) = isWide s f || anyWide s fs
+
+-- the smallest n whose field is, where the first of the fields is that of interval n
+unfoldable pub firstWide : Shape → ℕ → List ℕ → ℕ
+firstWide s n [] = 0
+firstWide s n (f ∷ fs) = cond (isWide s f) n (firstWide s (suc n) fs)
+
+abbrev pub wideAmong : Shape → ℕ → List ℕ → Test
+wideAmong s n fs = test (anyWide s fs) (reply 5 (firstWide s n fs))
+
+-- "Survey and check look for 5 in the whole lent table (or bank) first": 1, 2, 3, 5. The table is the first 2^k cells
+abbrev pub fieldTests : Shape → List ℕ → List Test
+fieldTests s cells = tableTests s (length cells) ++ (wideAmong s 0 (take (2 ^ s .k) cells) ∷ [])

@@ -1,7 +1,0 @@
--- The largest of some fields. Assumes nothing.
-use Prim.Native.Nat.{ℕ, max}
-use mathlib.Core.List.{List, [], _∷_}
-
-unfoldable pub largestOf : List ℕ → ℕ
-largestOf [] = 0
-largestOf (f ∷ fs) = max f (largestOf fs)
