@@ -21,7 +21,6 @@ pub use refusals::divisor_range;
 pub use refusals::few_cells;
 pub use refusals::input_width;
 pub use refusals::interval_place;
-pub use refusals::reaches;
 pub use refusals::whole_table;
 pub use refusals::widths;
 pub use shapes::Shape;

@@ -90,7 +90,7 @@ fn is_outside(least: u32, most: u32, x: u32) -> bool
 }
 
 // Whether x is 2^w or more, for any w.
-pub fn reaches(w: u32, x: u64) -> bool
+fn reaches(w: u32, x: u64) -> bool
     ensures { λ r. ⌜ r ≡ leb (2 ^ w) x ⌝ }
 {
     if 63 < w {
@@ -178,8 +178,8 @@ pub fn widths(shape: Shape) -> Outcome
     input_width(shape.k).then(output_width(shape.m))
 }
 
-// 1, 2 and 3, with which survey, check and look up begin. Not joined by `then`: a look-up is little
-// more than these tests (docs/BENCHMARKS.md).
+// 1, 2 and 3, with which check and look up begin. Not joined by `then`: a look-up is little more than
+// these tests (docs/BENCHMARKS.md).
 pub fn whole_table(shape: Shape, lent: usize) -> Outcome
     ensures { λ r. ⌜ replyOf r ≡ refusal (tableTests shape lent) ⌝ }
 {

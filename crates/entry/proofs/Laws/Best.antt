@@ -11,7 +11,7 @@ use Rattle.entry.specs.Errors.{worst}
 use Rattle.entry.specs.Least.{least}
 use Rattle.entry.specs.Rule.{rule}
 use Rattle.entry.proofs.Laws.Least.{unbeaten-is-least}
-use Rattle.entry.proofs.Laws.Unbeaten.{Unbeaten, Passes, passes-unbeaten, unbeaten-passes}
+use Rattle.entry.proofs.Laws.Unbeaten.{Passes, passes-unbeaten, unbeaten-passes}
 use Rattle.entry.proofs.Laws.Rule.{only-the-rule, rule-passes, rule-reaches-least}
 
 -- the test

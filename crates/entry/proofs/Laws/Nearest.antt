@@ -1,6 +1,6 @@
 -- The nearest whole number is the nearest: it is off by at most a half, and every other whole number is off by at least a half,
 -- since it is at least one away from this one. Assumes nothing.
-use Prim.Native.Nat.{ℕ, suc, _*_, _≤_, _<_}
+use Prim.Native.Nat.{ℕ, _*_, _≤_, _<_}
 use mathlib.Core.Path.{ap}
 use native.Mathlib.Nat.{le-of-eq, mul-le-mul-left}
 use native.Mathlib.Omega.{arith}

@@ -1,5 +1,5 @@
 -- The laws at a table's own numbers: u is 2^P, i is 2^k + n, and the values run from 2^m to the cap. Assumes nothing.
-use Prim.Native.Nat.{ℕ, suc, _+_, _-_, _*_, _^_, _≤_, _<_}
+use Prim.Native.Nat.{ℕ, suc, _+_, _*_, _^_, _≤_, _<_}
 use mathlib.Core.Bool.{true, false}
 use mathlib.Core.Path.{_≡_, ap, _∙_}
 use native.Mathlib.Nat.{mul-le-mul-left, le-trans, le-of-lt}

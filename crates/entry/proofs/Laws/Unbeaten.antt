@@ -1,7 +1,7 @@
 -- The worst error falls with j while (2i+1)·j is well below 2u and rises where it is well above. So a value is beaten by no other
 -- iff it is not too high and, unless it is the cap, not too low: one product and no division. MATH.md, 3 and 4. Assumes nothing.
 use Prim.Native.Nat.{ℕ, zero, suc, _+_, _-_, _*_, _≤_, _<_}
-use mathlib.Core.Path.{_≡_, ap}
+use mathlib.Core.Path.{ap}
 use native.Mathlib.Nat.{le-of-eq, mul-le-mul-left}
 use native.Mathlib.Omega.{arith}
 use Rattle.units.proofs.Laws.Order.{by-order}

@@ -12,7 +12,7 @@ use Rattle.units.specs.declared.refusals.Outcome.the-variants.{Done, Refused}
 use Rattle.units.specs.declared.refusals.Refusal.{Refusal}
 use Rattle.units.specs.declared.shapes.Shape.{Shape}
 use Rattle.units.proofs.Laws.Good.{table-good, good-table}
-use Rattle.units.proofs.Laws.Tests.{Passed, done-so, all-passed, done-by, refusal-numbered}
+use Rattle.units.proofs.Laws.Tests.{done-so, all-passed, done-by, refusal-numbered}
 use Rattle.entry.specs.Rule.{ruleField}
 use Rattle.table.specs.Build.{rows, built}
 use Rattle.table.specs.Wide.{fieldTests}

@@ -8,7 +8,6 @@
 -- Below, the same at every x.
 use Prim.Native.Nat.{ℕ, _+_, _≤_, _<_, _^_}
 use mathlib.Core.List.{List}
-use mathlib.Core.Path.{sym}
 use lib.IntN.{pos}
 use lib.ListN.{length, getD}
 use lib.Pow.{pow-pos}

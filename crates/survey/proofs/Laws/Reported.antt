@@ -5,7 +5,7 @@ use mathlib.Core.List.{List, [], _∷_, _++_}
 use mathlib.Core.Path.{_≡_, sym, ap, _∙_, subst}
 use native.Mathlib.Omega.{arith}
 use borrow.Author.Tests.{le-ltb}
-use lib.ListN.{length, take, drop, getD, length-take}
+use lib.ListN.{length, take, drop}
 use lib.Pow.{pow-pos}
 use lib.Seq.{getD-take, getD-drop, length-take-le}
 use Rattle.units.specs.Refusals.{Test, fewCells, tableTests}
@@ -22,7 +22,7 @@ use Rattle.table.proofs.Laws.Wide.{all-narrow, each-narrow}
 use Rattle.survey.specs.Finding.{Figures, fresh, findingOver}
 use Rattle.survey.specs.Survey.{Report, refused, surveyed, surveyAfter, surveyReport, bankNamed, bankOfReport}
 use Rattle.survey.proofs.Laws.Good.{good-named}
-use Rattle.survey.proofs.Laws.Join.{bankFigures, LargestBank, banks-give-whole}
+use Rattle.survey.proofs.Laws.Join.{bankFigures, banks-give-whole}
 use Rattle.survey.proofs.Laws.Largest.{Largest, survey-is-largest}
 
 -- where no test refuses, the finding is that over the fields

@@ -1,7 +1,7 @@
 -- Cells are filled one after the other. Assumes nothing.
-use Prim.Native.Nat.{ℕ, _+_, _-_, _/_, _^_, _≤_, _<_, min}
+use Prim.Native.Nat.{ℕ, _+_, _-_, _/_, _≤_, _<_, min}
 use mathlib.Core.List.{List, _++_, append-nil}
-use mathlib.Core.Path.{_≡_, refl, ap, _∙_}
+use mathlib.Core.Path.{_≡_, refl, _∙_}
 use native.Mathlib.Nat.{add-zero, add-suc}
 use native.Mathlib.Numerals.{add-one}
 use native.Mathlib.Omega.{arith}

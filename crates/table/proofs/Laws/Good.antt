@@ -1,11 +1,10 @@
 -- The facts of a list of tests that passed, by name, and the list from its facts. Assumes nothing.
-use Prim.Native.Nat.{ℕ, _^_, _≤_, _<_}
+use Prim.Native.Nat.{ℕ, _^_, _≤_}
 use mathlib.Core.List.{List, [], _∷_}
 use native.Mathlib.Omega.{arith}
 use borrow.Author.Tests.{ltb-false, leb-false, le-ltb, lt-leb}
 use lib.ListN.{length, take}
 use Rattle.units.specs.Refusals.{widthTests, tableTests, fewCells, divisor}
-use Rattle.units.specs.Inner.Good.{GoodWidths, GoodTable}
 use Rattle.units.specs.declared.shapes.Shape.{Shape}
 use Rattle.units.proofs.Laws.Good.{widths-good, good-widths, table-good, good-table}
 use Rattle.units.proofs.Laws.Tests.{Passed, passed-parts, passed-also, not-outside, within}

@@ -1,10 +1,8 @@
 -- The facts of a list of tests that passed, by name, and the list from its facts. Assumes nothing.
-use Prim.Native.Nat.{ℕ, _^_, _≤_}
-use mathlib.Core.Bool.{false}
+use Prim.Native.Nat.{ℕ, _^_}
 use mathlib.Core.List.{[], _∷_}
-use mathlib.Core.Path.{_≡_}
 use borrow.Author.Tests.{ltb-false, le-ltb}
-use Rattle.units.specs.Refusals.{outside, fewCells, widthTests, tableTests}
+use Rattle.units.specs.Refusals.{fewCells, widthTests, tableTests}
 use Rattle.units.specs.Inner.Good.{GoodWidths, GoodTable}
 use Rattle.units.specs.declared.shapes.Shape.{Shape}
 use Rattle.units.proofs.Laws.Tests.{Passed, passed-parts, passed-also, not-outside, within}

@@ -5,7 +5,7 @@ use mathlib.Core.List.{List, [], _∷_, _++_}
 use mathlib.Core.Path.{_≡_, refl, sym, ap, ap₂, _∙_}
 use native.Mathlib.Omega.{arith}
 use borrow.Author.Tests.{ltb-false, le-ltb, ne-eqb}
-use lib.Dec.{T, ltb}
+use lib.Dec.{ltb}
 use Rattle.units.specs.Refusals.{Reply, reply, replyOf, refusalNumber, Test, answer, refusal, thenReply, outside}
 use Rattle.units.specs.declared.refusals.Outcome.{Outcome}
 use Rattle.units.specs.declared.refusals.Outcome.the-variants.{Done, Refused}

@@ -1,7 +1,6 @@
 -- `entry::difference` meets its contract: both numbers are below 2^63, so they keep their values as signed ones, and the difference
 -- of two such numbers is one too. Assumes nothing.
 use Prim.Native.Nat.{ℕ, _<_, _≤_, _^_}
-use mathlib.Core.Path.{_≡_}
 use native.Mathlib.Nat.{le-refl}
 use native.Mathlib.Omega.{arith}
 use borrow.Author.Needs.{needs}

@@ -1,5 +1,5 @@
 -- `survey::bank` meets its contract: its tests are those of `bankReport`, and its cells the bank's. Assumes nothing.
-use Prim.Native.Nat.{_+_, _-_}
+use Prim.Native.Nat.{_-_}
 use mathlib.Core.List.{[], _∷_}
 use mathlib.Core.Path.{_≡_, _∙_}
 use native.Mathlib.Nat.{sub-zero}
@@ -8,7 +8,7 @@ use borrow.Author.Needs.{needs}
 use lib.ListN.{length}
 use Rattle.units.specs.Refusals.{fewCells}
 use Rattle.units.proofs.Laws.Tests.{done-so, refused-so}
-use Rattle.table.specs.Banks.{bankSize, bankStart}
+use Rattle.table.specs.Banks.{bankSize}
 use Rattle.table.proofs.Laws.Banks.{Within, good-bank-within}
 use Rattle.survey.specs.Survey.{refused, bankNamed}
 use Rattle.survey.proofs.Laws.Good.{GoodNamed, named-good, good-named}
