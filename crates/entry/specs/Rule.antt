@@ -17,6 +17,6 @@ rule u i most = min (nearest (2 * u) (2 * i + 1)) most
 abbrev pub ruleValue : Shape → ℕ → ℕ
 ruleValue s n = rule (unit s) (iOf s n) (cap s)
 
--- and the field that is stored for it: "The leading one is not stored."
+-- and the field that is stored for it: "The leading one is not stored." Nothing is cut off at 0: law `rule-in-range`
 abbrev pub ruleField : Shape → ℕ → ℕ
 ruleField s n = ruleValue s n - 2 ^ s .m

@@ -38,18 +38,18 @@ abbrev pub surveyReport : Shape → List ℕ → Report
 surveyReport s cells = surveyAfter (tableTests s (length cells)) s 0 (take (2 ^ s .k) cells)
 
 -- 1, 2, 4 for h, then b
-abbrev pub bankNamed : Shape → ℕ → ℕ → List Test
-bankNamed s h b = widthTests s ++ bankName (s .k) h b
+abbrev pub namedTests : Shape → ℕ → ℕ → List Test
+namedTests s h b = widthTests s ++ bankName (s .k) h b
 
 -- "A bank can be surveyed by itself, given its number; it then answers with n counted in the whole table": given its own cells; 3 is
 -- "fewer than 2^(k-h) in the bank"
 abbrev pub bankReport : Shape → ℕ → ℕ → List ℕ → Report
 bankReport s h b cells =
-    surveyAfter (bankNamed s h b ++ (fewCells (length cells) (bankSize (s .k) h) ∷ [])) s (bankStart (s .k) h b)
+    surveyAfter (namedTests s h b ++ (fewCells (length cells) (bankSize (s .k) h) ∷ [])) s (bankStart (s .k) h b)
     (take (bankSize (s .k) h) cells)
 
 -- and given the table: 3 where the bank's last cell is not lent
 abbrev pub bankOfReport : Shape → ℕ → ℕ → List ℕ → Report
 bankOfReport s h b table =
-    surveyAfter (bankNamed s h b ++ (fewCells (length table) (bankStart (s .k) h b + bankSize (s .k) h) ∷ [])) s (bankStart (s .k) h b)
+    surveyAfter (namedTests s h b ++ (fewCells (length table) (bankStart (s .k) h b + bankSize (s .k) h) ∷ [])) s (bankStart (s .k) h b)
     (bankOf (s .k) h b table)

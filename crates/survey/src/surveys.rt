@@ -5,7 +5,7 @@ ghost use Prim.Native.Nat.{_+_, _-_, _≤_, _^_};
 ghost use lib.ListN.{length, take, drop};
 ghost use Rattle.units.specs.Inner.Good.{GoodWidths};
 ghost use Rattle.units.specs.Refusals.{replyOf, refusal, fewCells};
-ghost use Rattle.survey.specs.Survey.{reported, surveyAfter, bankNamed, surveyReport, bankReport, bankOfReport};
+ghost use Rattle.survey.specs.Survey.{reported, surveyAfter, namedTests, surveyReport, bankReport, bankOfReport};
 use crate::tallies::Finding;
 use crate::tallies::Tally;
 use entry::is_wide;
@@ -70,8 +70,8 @@ pub fn whole(shape: Shape, table: &[u16]) -> SurveyAnswer
 }
 
 // The tests 1, 2, and 4 for h and b.
-fn bank_of_widths(shape: Shape, h: u32, b: u32) -> Outcome
-    ensures { λ r. ⌜ replyOf r ≡ refusal (bankNamed shape h b) ⌝ }
+fn named_bank(shape: Shape, h: u32, b: u32) -> Outcome
+    ensures { λ r. ⌜ replyOf r ≡ refusal (namedTests shape h b) ⌝ }
 {
     widths(shape).then(bank_named(shape.k, h, b))
 }
@@ -81,7 +81,7 @@ fn bank_of_widths(shape: Shape, h: u32, b: u32) -> Outcome
 pub fn bank(shape: Shape, h: u32, b: u32, cells: &[u16]) -> SurveyAnswer
     ensures { λ r. ⌜ reported r ≡ bankReport shape h b (now (cells .entry)) ⌝ }
 {
-    match bank_of_widths(shape, h, b) {
+    match named_bank(shape, h, b) {
         Outcome::Refused(r) => SurveyAnswer::Refused(r),
         Outcome::Done => {
             let place = bank_at(shape.k, h, b);
@@ -95,7 +95,7 @@ pub fn bank(shape: Shape, h: u32, b: u32, cells: &[u16]) -> SurveyAnswer
 pub fn bank_of(shape: Shape, h: u32, b: u32, table: &[u16]) -> SurveyAnswer
     ensures { λ r. ⌜ reported r ≡ bankOfReport shape h b (now (table .entry)) ⌝ }
 {
-    match bank_of_widths(shape, h, b) {
+    match named_bank(shape, h, b) {
         Outcome::Refused(r) => SurveyAnswer::Refused(r),
         Outcome::Done => {
             let place = bank_at(shape.k, h, b);

@@ -27,7 +27,8 @@ reported (Found n j) = lookedUp (n .0) (j .0)
 reported (TooWide n) = refused (reply 5 (n .0))
 reported (Refused r) = refused (reply (refusalNumber r) 0)
 
--- "The index is floor(X/2^(15-k)) - 2^k."
+-- "The index is floor(X/2^(15-k)) - 2^k." Where no test refuses, nothing is cut off at 0 and a cell of the table is named: laws
+-- `quotient-from`, `index-below`
 abbrev pub indexOf : Shape → ℕ → ℕ
 indexOf s x = x / 2 ^ (15 - s .k) - 2 ^ s .k
 

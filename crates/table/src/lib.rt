@@ -4,7 +4,6 @@ mod builders;
 mod lookups;
 mod views;
 
-pub use banks::Stretch;
 pub use banks::bank_at;
 pub use banks::bank_named;
 pub use builders::build;

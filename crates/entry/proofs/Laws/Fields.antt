@@ -1,5 +1,5 @@
 -- What follows from what a field may be. Assumes nothing.
-use Prim.Native.Nat.{ℕ, _+_, _*_, _^_, _≤_, _<_}
+use Prim.Native.Nat.{ℕ, _+_, _-_, _*_, _^_, _≤_, _<_}
 use mathlib.Core.Bool.{Bool, false}
 use mathlib.Core.Path.{_≡_, ap, _∙_}
 use native.Mathlib.Omega.{arith}
@@ -34,6 +34,11 @@ module _ (s : Shape) where
 
   pub cap-within-one : cap s ≤ 2 ^ (s .m + 1)
   cap-within-one = omega (arith, cap-is, fields-end-within, pow-add 2 (s .m) 1)
+
+  -- Document 01: "never above 2^(m+1) - 1"
+  pub cap-of-m-bits : cap s ≡ 2 ^ (s .m + 1) - 1
+  unfolding cap fieldsEnd
+  cap-of-m-bits = omega (arith, pow-add 2 (s .m) 1)
 
   pub smallest-within-cap : 2 ^ s .m ≤ cap s
   smallest-within-cap = omega (arith, cap-is, fields-end-positive)

@@ -10,10 +10,15 @@ use Rattle.entry.specs.Rule.{nearest, rule}
 use Rattle.entry.proofs.Laws.Least.{unbeaten-is-least}
 use Rattle.entry.proofs.Laws.Unbeaten.{Passes, passes-unbeaten}
 
--- the nearest whole number is off by at most a half
-pub nearest-within-half : (a b : ℕ) → 0 < b → (2 * (b * nearest a b) ≤ 2 * a + b) × (2 * a < 2 * (b * nearest a b) + b)
+-- the nearest whole number is off by at most a half: from below
+pub nearest-not-low : (a b : ℕ) → 0 < b → 2 * a < 2 * (b * nearest a b) + b
 unfolding nearest
-nearest-within-half a b p = omega (arith, div-add-mod (2 * a + b) (2 * b), mod-lt (2 * a + b) {m = 2 * b} (omega arith))
+nearest-not-low a b p = omega (arith, div-add-mod (2 * a + b) (2 * b), mod-lt (2 * a + b) {m = 2 * b} (omega arith))
+
+-- and from above
+pub nearest-not-high : (a b : ℕ) → 2 * (b * nearest a b) ≤ 2 * a + b
+unfolding nearest
+nearest-not-high a b = omega (arith, div-add-mod (2 * a + b) (2 * b))
 
 -- the half that is added drops out where the divisor is odd: one division
 pub nearest-to-odd : (a i : ℕ) → nearest a (2 * i + 1) ≡ (a + i) / (2 * i + 1)
@@ -26,10 +31,6 @@ unfolding nearest
 nearest-at-least u i j h = le-div-iff-mul-le {k = 2 * (2 * i + 1)} (omega arith) .1 (omega arith)
 
 module _ (u i most : ℕ) where
-  half : (2 * ((2 * i + 1) * nearest (2 * u) (2 * i + 1)) ≤ 2 * (2 * u) + (2 * i + 1))
-      × (2 * (2 * u) < 2 * ((2 * i + 1) * nearest (2 * u) (2 * i + 1)) + (2 * i + 1))
-  half = nearest-within-half (2 * u) (2 * i + 1) (omega arith)
-
   pub rule-at-most : rule u i most ≤ most
   unfolding rule
   rule-at-most = omega arith
@@ -42,13 +43,13 @@ module _ (u i most : ℕ) where
   pub rule-not-high : (2 * i + 1) * rule u i most ≤ 2 * u + i
   unfolding rule
   rule-not-high =
-      omega (arith, half, mul-le-mul-left (2 * i + 1) (min-le-left (nearest (2 * u) (2 * i + 1)) most))
+      omega (arith, nearest-not-high (2 * u) (2 * i + 1), mul-le-mul-left (2 * i + 1) (min-le-left (nearest (2 * u) (2 * i + 1)) most))
 
   pub rule-not-low : rule u i most < most → 2 * u ≤ (2 * i + 1) * rule u i most + i
   unfolding rule
   rule-not-low h =
       let e : rule u i most ≡ nearest (2 * u) (2 * i + 1) = omega arith in
-      rw e (omega (arith, half))
+      rw e (omega (arith, nearest-not-low (2 * u) (2 * i + 1) (omega arith)))
 
   -- and no other value is both
   never-two : {x y : ℕ} → x < y → (2 * i + 1) * y ≤ 2 * u + i → 2 * u ≤ (2 * i + 1) * x + i → ⊥

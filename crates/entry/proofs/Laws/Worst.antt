@@ -7,13 +7,6 @@ use lib.IntN.{pos, _-ℤ_, natAbs}
 use Rattle.units.proofs.Laws.Order.{by-order}
 use Rattle.entry.specs.Errors.{high, low, worst, side}
 
--- the product at the right end and at the middle, from the one at the left end
-pub at-right : (i j : ℕ) → (i + 1) * j ≡ i * j + j
-at-right i j = omega arith
-
-pub at-middle : (i j : ℕ) → (2 * i + 1) * j ≡ 2 * (i * j) + j
-at-middle i j = omega arith
-
 -- the distance of two numbers
 unfoldable pub dist : ℕ → ℕ → ℕ
 dist a b = (a - b) + (b - a)
@@ -50,7 +43,7 @@ module _ (u i j : ℕ) where
   side-left p h =
       simp (
         size-of-difference,
-        lt-ltb (dist u ((i + 1) * j)) (dist u (i * j)) (omega (arith, at-right i j, at-middle i j)),
+        lt-ltb (dist u ((i + 1) * j)) (dist u (i * j)) (omega arith),
       )
 
   pub side-right : 0 < j → 2 * u < (2 * i + 1) * j → side u i j ≡ 1
@@ -58,8 +51,8 @@ module _ (u i j : ℕ) where
   side-right p h =
       simp (
         size-of-difference,
-        le-ltb (dist u ((i + 1) * j)) (dist u (i * j)) (omega (arith, at-right i j, at-middle i j)),
-        lt-ltb (dist u (i * j)) (dist u ((i + 1) * j)) (omega (arith, at-right i j, at-middle i j)),
+        le-ltb (dist u ((i + 1) * j)) (dist u (i * j)) (omega arith),
+        lt-ltb (dist u (i * j)) (dist u ((i + 1) * j)) (omega arith),
       )
 
   pub side-both : (2 * i + 1) * j ≡ 2 * u → side u i j ≡ 2
@@ -67,6 +60,6 @@ module _ (u i j : ℕ) where
   side-both h =
       simp (
         size-of-difference,
-        le-ltb (dist u ((i + 1) * j)) (dist u (i * j)) (omega (arith, at-right i j, at-middle i j)),
-        le-ltb (dist u (i * j)) (dist u ((i + 1) * j)) (omega (arith, at-right i j, at-middle i j)),
+        le-ltb (dist u ((i + 1) * j)) (dist u (i * j)) (omega arith),
+        le-ltb (dist u (i * j)) (dist u ((i + 1) * j)) (omega arith),
       )

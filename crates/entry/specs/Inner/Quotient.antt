@@ -7,11 +7,11 @@ use Rattle.entry.specs.Errors.{unit, iOf}
 use Rattle.entry.specs.declared.quotients.Quotient.{Quotient}
 
 -- at interval n: the divisor, and the dividend with the 2^m divisors that a field leaves out
-abbrev pub divisor : Shape → ℕ → ℕ
-divisor s n = 2 * iOf s n + 1
+abbrev pub byAt : Shape → ℕ → ℕ
+byAt s n = 2 * iOf s n + 1
 
-abbrev pub dividend : Shape → ℕ → ℕ
-dividend s n = 2 * unit s + iOf s n
+abbrev pub overAt : Shape → ℕ → ℕ
+overAt s n = 2 * unit s + iOf s n
 
 -- from one interval to the next
 abbrev pub rise : Shape → ℕ
@@ -22,7 +22,7 @@ fall s = 2 ^ (s .m + 1) - 1
 
 -- as they stand before interval n comes
 pub record Before (s : Shape) (n : ℕ) (q : Quotient) : Type 0 where
-  pub by-is : q .by + rise s ≡ divisor s n
-  pub over-is : q .over + divisor s n * 2 ^ s .m ≡ dividend s n + fall s
+  pub by-is : q .by + rise s ≡ byAt s n
+  pub over-is : q .over + byAt s n * 2 ^ s .m ≡ overAt s n + fall s
   pub rise-is : q .rise ≡ rise s
   pub fall-is : q .fall ≡ fall s

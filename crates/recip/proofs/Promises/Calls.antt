@@ -3,14 +3,15 @@
 --     bank-built-keeps-before, bank-built-keeps-after    "The call fills only that bank's cells"
 --     length-built, length-bank-built      a builder leaves as many cells as it was lent
 --     shown-whole, empty-is-refused, refused-is-empty    "A shown bank is never empty; an empty stretch means refusal"
---     look-up-contains                     the n that Look up gives is that of the interval that has the divisor
+--     look-up-contains                     the n that Look up gives, with 0 and with 5, is that of the interval that has the divisor
 --     lookup-by-one-cell                   Look up reads one cell
 --     survey-reports-largest, largest-is-one    "the largest worst error, the smallest n that has it"
---     tally-is-survey                      a tally of every field of a table or of a bank has its survey
---     banks-report-whole                   the banks' reports give that of the whole table, in whatever order they come
+--     survey-is-tallied, bank-is-tallied   a tally of every field of a table, or of a bank, has its survey
+--     banks-report-whole, whole-reports-largest    the banks' reports give that of the whole table, in whatever order they come
 --     bank-of-shown                        the survey of a bank in its table is that of the bank shown
 --     check-names-first-failing, not-best-larger    the check names the first entry that is not best
---     first-wide-is-smallest               5 names the smallest n of an over-wide field
+--     first-wide-is-smallest, and of the reports check-names-smallest, survey-names-smallest, survey-bank-names-smallest,
+--     survey-bank-of-names-smallest        5 names the smallest n of an over-wide field
 --     survey-past-table, bank-past-bank, bank-of-past-bank, check-past-table, shown-past-table, show-bank-number-past-table,
 --     build-number-past-table, built-past-table, build-bank-number-past-table, bank-built-past-table
 --                                          "Cells past the table change no answer and keep their values."
@@ -28,8 +29,8 @@ pub use Rattle.table.proofs.Laws.Shown.{shown-whole, empty-is-refused, refused-
 pub use Rattle.table.proofs.Laws.Wide.{first-wide-is-smallest}
 pub use Rattle.survey.proofs.Laws.Largest.{largest-is-one}
 pub use Rattle.survey.proofs.Laws.Past.{survey-past-table, bank-past-bank, bank-of-past-bank}
-pub use Rattle.survey.proofs.Laws.Reported.{survey-reports-largest, banks-report-whole}
+pub use Rattle.survey.proofs.Laws.Report.{survey-names-smallest, survey-bank-names-smallest, survey-bank-of-names-smallest}
+pub use Rattle.survey.proofs.Laws.Reported.{survey-reports-largest, survey-is-tallied, bank-is-tallied, banks-report-whole, whole-reports-largest}
 pub use Rattle.survey.proofs.Laws.Shown.{bank-of-shown}
-pub use Rattle.survey.proofs.Laws.Tallied.{tally-is-survey}
-pub use Rattle.verdict.proofs.Laws.Finding.{check-names-first-failing, not-best-larger}
+pub use Rattle.verdict.proofs.Laws.Finding.{check-names-first-failing, check-names-smallest, not-best-larger}
 pub use Rattle.verdict.proofs.Laws.Verdict.{check-past-table}

@@ -5,7 +5,7 @@
 --     yes-exactly-if-best                 "The checker says yes exactly to tables whose every entry reaches that least error."
 --     built-passes                        so it says yes to every built table
 -- and below, the same at every x, and "A call to which no refusal number's reason applies is done and answers 0."
-use Prim.Native.Nat.{ℕ, suc, _+_, _≤_, _<_, _^_}
+use Prim.Native.Nat.{ℕ, _+_, _≤_, _<_, _^_}
 use mathlib.Core.Bool.{Bool, true, false, cond}
 use mathlib.Core.List.{List, [], _∷_, _++_}
 use mathlib.Core.Path.{_≡_, refl, sym, ap}
@@ -20,7 +20,7 @@ use Rattle.units.proofs.Laws.Tests.{Passed, Numbered, all-passed, done-by, answ
 use Rattle.entry.specs.Errors.{unit, iOf, jOf, worst}
 use Rattle.entry.specs.Everywhere.{_over_, Bounds}
 use Rattle.entry.specs.Fields.{cap, tooWide}
-use Rattle.entry.specs.Least.{leastWorst, isBest}
+use Rattle.entry.specs.Least.{isBest}
 use Rattle.entry.specs.Report as error-specs
 use Rattle.entry.proofs.Laws.Everywhere.{better-entry-bounded}
 use Rattle.entry.proofs.Laws.Least.{least-below}
@@ -31,6 +31,7 @@ use Rattle.table.specs.Wide.{wideAmong, fieldTests}
 use Rattle.survey.specs.Survey as survey-specs
 use Rattle.survey.specs.Tally as tally-specs
 use Rattle.verdict.specs.Check as check-specs
+use Rattle.verdict.proofs.Laws.Scan.{scan-number}
 pub use Rattle.table.proofs.Laws.Built.{built-reaches-least, built-entry, bank-built-reaches-least, bank-built-entry}
 pub use Rattle.verdict.proofs.Laws.Verdict.{yes-exactly-if-best}
 pub use Rattle.verdict.proofs.Laws.Built.{built-passes}
@@ -82,17 +83,6 @@ pub survey-number : (tests : List Test) (s : Shape) (n : ℕ) (fields : List ℕ
     → survey-specs.surveyAfter tests s n fields .number ≡ refusal (tests ++ (wideAmong s n fields ∷ [])) .number
 survey-number tests s n fields =
     answer-number (λ (r : survey-specs.Report). r .number) survey-specs.refused _ (tests ++ (wideAmong s n fields ∷ [])) (λ b. refl) refl
-
--- a scan that finds an entry is done, too
-scan-number : (good : ℕ → ℕ → Bool) (s : Shape) (n : ℕ) (fields : List ℕ) → check-specs.firstFailing good s n fields .number ≡ 0
-unfolding check-specs.firstFailing
-scan-number good s n [] = refl
-scan-number good s n (f ∷ fs) = by-test (good n (jOf s f)) (check-specs.firstFailing good s (suc n) fs) (scan-number good s (suc n) fs)
-  where
-    by-test : (passes : Bool) (rest : check-specs.Report) → rest .number ≡ 0
-        → cond passes rest (check-specs.notBest n (worst (unit s) (iOf s n) (jOf s f)) (leastWorst s n)) .number ≡ 0
-    by-test true rest e = e
-    by-test false rest e = refl
 
 pub check-number : (s : Shape) (cells : List ℕ) → check-specs.checkReport s cells .number ≡ refusal (fieldTests s cells) .number
 check-number s cells =

@@ -8,7 +8,7 @@ use Rattle.units.proofs.Laws.Tests.{Passed, passed-parts, passed-also}
 use Rattle.table.specs.Banks.{bankName}
 use Rattle.table.specs.Inner.Good.{GoodBank}
 use Rattle.table.proofs.Laws.Good.{bank-good, good-bank}
-use Rattle.survey.specs.Survey.{bankNamed}
+use Rattle.survey.specs.Survey.{namedTests}
 
 -- 1, 2, and 4 for h and b
 pub record GoodNamed (s : Shape) (h b : ℕ) : Type 0 where
@@ -16,11 +16,11 @@ pub record GoodNamed (s : Shape) (h b : ℕ) : Type 0 where
   pub bank : GoodBank (s .k) h b
 
 module _ {s : Shape} {h b : ℕ} where
-  pub named-good : Passed (bankNamed s h b) → GoodNamed s h b
+  pub named-good : Passed (namedTests s h b) → GoodNamed s h b
   named-good p =
       let parts = passed-parts (widthTests s) (bankName (s .k) h b) p in
       let widths = widths-good (parts .0) in
-      record { widths = widths; bank = bank-good (widths .narrow-in) (parts .1) }
+      record { widths = widths; bank = bank-good (widths .some-in) (widths .narrow-in) (parts .1) }
 
-  pub good-named : GoodNamed s h b → Passed (bankNamed s h b)
+  pub good-named : GoodNamed s h b → Passed (namedTests s h b)
   good-named g = passed-also (widthTests s) (bankName (s .k) h b) (good-widths (g .widths)) (good-bank (g .bank))

@@ -85,15 +85,32 @@ module _ (s : Shape) (h : ℕ) (cells : List ℕ) (low : h ≤ s .k) (enough : 2
   whole : length (take (2 ^ s .k) cells) ≡ 2 ^ s .k
   whole = length-take-le (2 ^ s .k) cells enough
 
+  whole-survey : Largest s 0 (take (2 ^ s .k) cells) (tableFigures s cells)
+  whole-survey = survey-is-largest s 0 (take (2 ^ s .k) cells) (omega (arith, whole, pow-pos (s .k)))
+
+  -- a bank's finding is an entry of the table
+  module _ (b : ℕ) (number : b < 2 ^ h) where
+    place : ℕ
+    place = bankStart (s .k) h b + survey-of b number .at
+
+    in-size : survey-of b number .at < bankSize (s .k) h
+    in-size = omega (arith, survey-of b number .within, size-of b number)
+
+    place-within : place < 2 ^ s .k
+    unfolding place
+    place-within = omega (arith, in-size, bank-within (s .k) h b low number)
+
+    is-entry : bankFigures s h cells b ≡ entryAt s 0 (take (2 ^ s .k) cells) place
+    unfolding place
+    is-entry = survey-of b number .is ∙ same-entry b (survey-of b number .at) number in-size
+
   joined : {f : Figures} → LargestBank s h cells f → Largest s 0 (take (2 ^ s .k) cells) f
   joined {f} j =
-      let finding = survey-of (j .b) (j .number) in
-      let inside : finding .at < bankSize (s .k) h = omega (arith, finding .within, size-of (j .b) (j .number)) in
-      let is : f ≡ entryAt s 0 (take (2 ^ s .k) cells) (bankStart (s .k) h (j .b) + finding .at) = j .is ∙ finding .is ∙ same-entry (j .b) (finding .at) (j .number) inside in
-      let last = bank-within (s .k) h (j .b) low (j .number) in
+      let is = j .is ∙ is-entry (j .b) (j .number) in
+      let inside = place-within (j .b) (j .number) in
       record {
-        at = bankStart (s .k) h (j .b) + finding .at;
-        within = omega (arith, whole, last, inside);
+        at = place (j .b) (j .number);
+        within = omega (arith, whole, inside);
         is = is;
         largest =
             λ i h'.
@@ -101,7 +118,7 @@ module _ (s : Shape) (h : ℕ) (cells : List ℕ) (low : h ≤ s .k) (enough : 2
             omega (arith, below-bank i i-in, j .largest (i / bankSize (s .k) h) (number-of i i-in));
         smallest =
             λ i h'.
-            let i-in : i < 2 ^ s .k = omega (arith, last, inside) in
+            let i-in : i < 2 ^ s .k = omega (arith, inside) in
             by-order (f .worst) (bankFigures s h cells (i / bankSize (s .k) h) .worst)
             (λ e.
             let top = j .largest (i / bankSize (s .k) h) (number-of i i-in) in
@@ -117,5 +134,51 @@ module _ (s : Shape) (h : ℕ) (cells : List ℕ) (low : h ≤ s .k) (enough : 2
 
   -- the surveys of the banks of one h, by their largest worst and smallest n, give the survey of the whole
   pub banks-give-whole : {f : Figures} → LargestBank s h cells f → f ≡ tableFigures s cells
-  banks-give-whole j =
-      largest-is-one s 0 (take (2 ^ s .k) cells) (joined j) (survey-is-largest s 0 (take (2 ^ s .k) cells) (omega (arith, whole, pow-pos (s .k))))
+  banks-give-whole j = largest-is-one s 0 (take (2 ^ s .k) cells) (joined j) whole-survey
+
+  -- the bank that the whole's finding lies in has it too
+  home : ℕ
+  home = whole-survey .at / bankSize (s .k) h
+
+  found : whole-survey .at < 2 ^ s .k
+  found = omega (arith, whole-survey .within, whole)
+
+  home-has : tableFigures s cells ≡ bankFigures s h cells home
+  unfolding home
+  home-has =
+      let number = number-of (whole-survey .at) found in
+      let start = div-mul-le-self (whole-survey .at) (bankSize (s .k) h) in
+      let same : (i : ℕ) → i < bankSize (s .k) h → _ = λ i l. ap (λ (f : Figures). f .worst) (same-entry home i number l) in
+      largest-is-one s (bankStart (s .k) h home) (bankOf (s .k) h home cells)
+      (record {
+        at = whole-survey .at - bankStart (s .k) h home;
+        within = omega (arith, size-of home number, in-bank (whole-survey .at) found);
+        is = whole-survey .is ∙ entry-in-bank (whole-survey .at) found;
+        largest =
+            λ i l.
+            let i-in : i < bankSize (s .k) h = omega (arith, size-of home number) in
+            omega (arith, same i i-in, whole-survey .largest (bankStart (s .k) h home + i) (omega (arith, whole, i-in, bank-within (s .k) h home low number)));
+        smallest =
+            λ i l.
+            let i-in : i < bankSize (s .k) h = omega (arith, in-bank (whole-survey .at) found) in
+            omega (arith, same i i-in, whole-survey .smallest (bankStart (s .k) h home + i) (omega (arith, start)));
+      })
+      (survey-of home number)
+
+  -- so the whole's finding is the largest of the banks', and a largest there always is
+  pub whole-is-largest-bank : LargestBank s h cells (tableFigures s cells)
+  unfolding home
+  whole-is-largest-bank =
+      record {
+        b = home;
+        number = number-of (whole-survey .at) found;
+        is = home-has;
+        largest =
+            λ c l.
+            omega (arith, ap (λ (f : Figures). f .worst) (is-entry c l), whole-survey .largest (place c l) (omega (arith, whole, place-within c l)));
+        smallest =
+            λ c l same.
+            by-order (whole-survey .at) (place c l)
+            (λ e. omega (arith, e, ap (λ (f : Figures). f .n) (is-entry c l), ap (λ (f : Figures). f .n) (whole-survey .is)))
+            (λ e. absurd (omega (arith, ap (λ (f : Figures). f .worst) (is-entry c l), same, whole-survey .smallest (place c l) e)));
+      }

@@ -9,7 +9,7 @@ use Rattle.units.specs.Refusals.{Test, widthTests, test, reply}
 use Rattle.units.specs.declared.shapes.Shape.{Shape}
 use Rattle.table.specs.Banks.{bankSize, bankStart}
 use Rattle.table.proofs.Laws.Past.{enough-still, part-still}
-use Rattle.survey.specs.Survey.{surveyAfter, bankNamed, surveyReport, bankReport, bankOfReport}
+use Rattle.survey.specs.Survey.{surveyAfter, namedTests, surveyReport, bankReport, bankOfReport}
 
 -- a survey sees only whether the cells are enough, and the fields
 same-survey : (tests : List Test) (s : Shape) (n : ℕ) {short short' : Bool} {fields fields' : List ℕ} → short ≡ short' → fields ≡ fields'
@@ -22,10 +22,10 @@ survey-past-table s cells more h =
 
 pub bank-past-bank : (s : Shape) (h b : ℕ) (cells more : List ℕ) → bankSize (s .k) h ≤ length cells → bankReport s h b (cells ++ more) ≡ bankReport s h b cells
 bank-past-bank s h b cells more l =
-    same-survey (bankNamed s h b) s (bankStart (s .k) h b) (enough-still cells more (bankSize (s .k) h) l) (take-append-le (bankSize (s .k) h) cells more l)
+    same-survey (namedTests s h b) s (bankStart (s .k) h b) (enough-still cells more (bankSize (s .k) h) l) (take-append-le (bankSize (s .k) h) cells more l)
 
 pub bank-of-past-bank : (s : Shape) (h b : ℕ) (cells more : List ℕ) → bankStart (s .k) h b + bankSize (s .k) h ≤ length cells
     → bankOfReport s h b (cells ++ more) ≡ bankOfReport s h b cells
 bank-of-past-bank s h b cells more l =
-    same-survey (bankNamed s h b) s (bankStart (s .k) h b) (enough-still cells more (bankStart (s .k) h b + bankSize (s .k) h) l)
+    same-survey (namedTests s h b) s (bankStart (s .k) h b) (enough-still cells more (bankStart (s .k) h b + bankSize (s .k) h) l)
     (part-still (bankStart (s .k) h b) (bankSize (s .k) h) cells more l)

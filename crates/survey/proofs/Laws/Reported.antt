@@ -7,23 +7,26 @@ use native.Mathlib.Omega.{arith}
 use borrow.Author.Tests.{le-ltb}
 use lib.ListN.{length, take, drop}
 use lib.Pow.{pow-pos}
-use lib.Seq.{getD-take, getD-drop, length-take-le}
+use lib.Seq.{getD-take, getD-drop}
 use Rattle.units.specs.Refusals.{Test, fewCells, tableTests}
 use Rattle.units.specs.declared.shapes.Shape.{Shape}
 use Rattle.units.proofs.Laws.Good.{good-table}
 use Rattle.units.proofs.Laws.Tests.{Passed, passed-also, done-by}
 use Rattle.entry.specs.Fields.{isWide}
 use Rattle.table.specs.Banks.{bankSize, bankStart, bankOf}
-use Rattle.table.specs.Inner.Good.{GoodFields}
+use Rattle.table.specs.Inner.Good.{GoodBank, GoodFields}
 use Rattle.table.specs.Wide.{anyWide, wideAmong}
 use Rattle.table.proofs.Laws.Banks.{bank-within}
+use Rattle.table.proofs.Laws.Good.{good-fields, table-size}
 use Rattle.table.proofs.Laws.Shown.{bank-whole}
 use Rattle.table.proofs.Laws.Wide.{all-narrow, each-narrow}
 use Rattle.survey.specs.Finding.{Figures, fresh, findingOver}
-use Rattle.survey.specs.Survey.{Report, refused, surveyed, surveyAfter, surveyReport, bankNamed, bankOfReport}
+use Rattle.survey.specs.Survey.{Report, refused, surveyed, surveyAfter, surveyReport, namedTests, bankOfReport}
 use Rattle.survey.proofs.Laws.Good.{good-named}
-use Rattle.survey.proofs.Laws.Join.{bankFigures, banks-give-whole}
+use Rattle.survey.proofs.Laws.Join.{LargestBank, bankFigures, banks-give-whole, whole-is-largest-bank}
+use Rattle.survey.specs.Tally.{started, talliedAll}
 use Rattle.survey.proofs.Laws.Largest.{Largest, survey-is-largest}
+use Rattle.survey.proofs.Laws.Tallied.{tally-is-survey}
 
 -- where no test refuses, the finding is that over the fields
 finding-is : (tests : List Test) (s : Shape) (n : ℕ) (fields : List ℕ) → Passed tests → anyWide s fields ≡ false
@@ -36,7 +39,7 @@ finding-is tests s n fields passed narrow =
 
 module _ (s : Shape) (cells : List ℕ) (good : GoodFields s cells) where
   size : length (take (2 ^ s .k) cells) ≡ 2 ^ s .k
-  size = length-take-le (2 ^ s .k) cells (good .table .enough)
+  size = table-size cells (good .table)
 
   table-finding : surveyReport s cells .finding ≡ findingOver s 0 (take (2 ^ s .k) cells) fresh
   table-finding = finding-is (tableTests s (length cells)) s 0 (take (2 ^ s .k) cells) (good-table (good .table)) (good .narrow)
@@ -46,15 +49,22 @@ module _ (s : Shape) (cells : List ℕ) (good : GoodFields s cells) where
   survey-reports-largest =
       rw table-finding (survey-is-largest s 0 (take (2 ^ s .k) cells) (omega (arith, size, pow-pos (s .k))))
 
+  -- "A running tally takes one entry at a time": over all fields of the table it has the survey's finding
+  pub survey-is-tallied : surveyReport s cells ≡ surveyed (talliedAll (started s 0) (take (2 ^ s .k) cells) .finding)
+  survey-is-tallied =
+      tally-is-survey (tableTests s (length cells)) s 0 (take (2 ^ s .k) cells) (good .table .widths) (omega (arith, size)) (good-fields good)
+
   module _ (h : ℕ) (low : h ≤ s .k) where
     module _ (b : ℕ) (number : b < 2 ^ h) where
+      good-bank : GoodBank (s .k) h b
+      good-bank =
+          record { some = good .table .widths .some-in; narrow = good .table .widths .narrow-in; low = low; number = number }
+
       within : bankStart (s .k) h b + bankSize (s .k) h ≤ 2 ^ s .k
       within = bank-within (s .k) h b low number
 
       bank-size : length (bankOf (s .k) h b cells) ≡ bankSize (s .k) h
-      bank-size =
-          bank-whole (s .k) h b cells
-          (record { bank = record { narrow = good .table .widths .narrow-in; low = low; number = number }; enough = good .table .enough })
+      bank-size = bank-whole (s .k) h b cells (record { bank = good-bank; enough = good .table .enough })
 
       bank-narrow : anyWide s (bankOf (s .k) h b cells) ≡ false
       bank-narrow =
@@ -67,14 +77,23 @@ module _ (s : Shape) (cells : List ℕ) (good : GoodFields s cells) where
           ∙ sym (getD-take (bankSize (s .k) h) (drop (bankStart (s .k) h b) cells) i 0 i-in))
           (all-narrow s (take (2 ^ s .k) cells) (good .narrow) (bankStart (s .k) h b + i) (omega (arith, size, within))))
 
+      abbrev tests : List Test
+      tests = namedTests s h b ++ (fewCells (length cells) (bankStart (s .k) h b + bankSize (s .k) h) ∷ [])
+
+      passed : Passed tests
+      passed =
+          passed-also (namedTests s h b) (fewCells (length cells) (bankStart (s .k) h b + bankSize (s .k) h) ∷ [])
+          (good-named (record { widths = good .table .widths; bank = good-bank }))
+          (le-ltb (length cells) (bankStart (s .k) h b + bankSize (s .k) h) (omega (arith, within, good .table .enough)), tt)
+
       bank-finding : bankOfReport s h b cells .finding ≡ bankFigures s h cells b
-      bank-finding =
-          let last : ℕ = bankStart (s .k) h b + bankSize (s .k) h in
-          finding-is (bankNamed s h b ++ (fewCells (length cells) last ∷ [])) s (bankStart (s .k) h b) (bankOf (s .k) h b cells)
-          (passed-also (bankNamed s h b) (fewCells (length cells) last ∷ [])
-          (good-named (record { widths = good .table .widths; bank = record { narrow = good .table .widths .narrow-in; low = low; number = number } }))
-          (le-ltb (length cells) last (omega (arith, within, good .table .enough)), tt))
-          bank-narrow
+      bank-finding = finding-is tests s (bankStart (s .k) h b) (bankOf (s .k) h b cells) passed bank-narrow
+
+      -- and over all fields of a bank that bank's
+      pub bank-is-tallied : bankOfReport s h b cells ≡ surveyed (talliedAll (started s (bankStart (s .k) h b)) (bankOf (s .k) h b cells) .finding)
+      bank-is-tallied =
+          tally-is-survey tests s (bankStart (s .k) h b) (bankOf (s .k) h b cells) (good .table .widths) (omega (arith, within, bank-size))
+          (passed-also tests (wideAmong s (bankStart (s .k) h b) (bankOf (s .k) h b cells) ∷ []) passed (bank-narrow, tt))
 
     -- of the banks' reports, the one with the largest worst error and, of equal ones, the smallest n
     pub record LargestReport (f : Figures) : Type 0 where
@@ -98,3 +117,19 @@ module _ (s : Shape) (cells : List ℕ) (good : GoodFields s cells) where
               subst (λ (x : Figures). x .worst ≡ f .worst → f .n ≤ x .n) (bank-finding c l) (r .smallest c l);
         })
         ∙ sym table-finding
+
+    -- and the report of the whole table is one, so a largest there always is
+    pub whole-reports-largest : LargestReport (surveyReport s cells .finding)
+    whole-reports-largest =
+        let j : LargestBank s h cells (surveyReport s cells .finding) = rw table-finding (whole-is-largest-bank s h cells low (good .table .enough)) in
+        record {
+          b = j .b;
+          number = j .number;
+          is = j .is ∙ sym (bank-finding (j .b) (j .number));
+          largest =
+              λ c l. subst (λ (x : Figures). x .worst ≤ surveyReport s cells .finding .worst) (sym (bank-finding c l)) (j .largest c l);
+          smallest =
+              λ c l.
+              subst (λ (x : Figures). x .worst ≡ surveyReport s cells .finding .worst → surveyReport s cells .finding .n ≤ x .n)
+              (sym (bank-finding c l)) (j .smallest c l);
+        }

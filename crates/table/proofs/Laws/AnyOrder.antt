@@ -134,7 +134,7 @@ module _ (s : Shape) (h : ℕ) (low : h ≤ s .k) where
       (bank-built-is s h b cells
       (record {
         widths = good .widths;
-        view = record { bank = record { narrow = good .widths .narrow-in; low = low; number = number }; enough = good .enough };
+        view = record { bank = record { some = good .widths .some-in; narrow = good .widths .narrow-in; low = low; number = number }; enough = good .enough };
       })))
 
   all-banks : (bs cells : List ℕ) → GoodTable s (length cells) → banksBuilt s h bs cells ≡ banksFilled (ruleField s) (s .k) h bs cells

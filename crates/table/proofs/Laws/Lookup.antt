@@ -1,8 +1,8 @@
 -- Where a divisor lies. Assumes nothing.
 use Prim.Native.Nat.{ℕ, _+_, _-_, _*_, _/_, _^_, _≤_, _<_}
-use mathlib.Core.Bool.{true, false}
+use mathlib.Core.Bool.{Bool, true, false}
 use mathlib.Core.List.{List, [], _∷_, _++_}
-use mathlib.Core.Path.{_≡_, refl, sym, ap, subst, _∙_}
+use mathlib.Core.Path.{_≡_, refl, ap}
 use native.Mathlib.Nat.{le-div-iff-mul-le, div-lt-iff-lt-mul, div-mul-le-self, lt-div-mul-add, mul-le-mul-right, mul-lt-mul-of-pos-right}
 use native.Mathlib.Omega.{arith}
 use borrow.Author.Tests.{le-ltb}
@@ -10,14 +10,14 @@ use lib.ListN.{length, getD}
 use lib.Pow.{pow-pos}
 use Rattle.units.specs.Refusals.{Test, answer, reply}
 use Rattle.units.specs.declared.shapes.Shape.{Shape}
-use Rattle.units.proofs.Laws.Tests.{passed-parts, passed-also, all-passed, done-by, refused-after, answer-number}
+use Rattle.units.proofs.Laws.Tests.{passed-also, done-by, refused-after}
 use Rattle.units.proofs.Laws.Powers.{power-splits}
 use Rattle.entry.specs.Errors.{iOf, jOf}
 use Rattle.entry.specs.Everywhere.{Holds}
 use Rattle.entry.specs.Fields.{isWide, tooWide}
 use Rattle.table.specs.Lookup.{Report, refused, lookedUp, indexOf, divisorTests, lookupAt, lookupReport}
 use Rattle.table.specs.Inner.Good.{GoodLookup}
-use Rattle.table.proofs.Laws.Good.{lookup-good, good-lookup}
+use Rattle.table.proofs.Laws.Good.{good-lookup}
 
 module _ (s : Shape) (x : ℕ) (narrow : s .k ≤ 15) (from : 2 ^ 15 ≤ x) (to : x < 2 ^ 16) where
   -- X/2^(15-k) has k + 1 bits, and the first of them is set
@@ -60,17 +60,18 @@ module _ {s : Shape} {x : ℕ} (cells : List ℕ) (good : GoodLookup s x (length
       done-by refused _ (divisorTests s x (length cells) ++ field)
       (passed-also (divisorTests s x (length cells)) field (good-lookup good) (narrow, tt))
 
--- the n that is given is that of the interval that has the divisor
-pub look-up-contains : (s : Shape) (x : ℕ) (cells : List ℕ) → lookupReport s x cells .number ≡ 0
+-- the n that is given, with 0 and with 5, is that of the interval that has the divisor
+pub look-up-contains : (s : Shape) (x : ℕ) (cells : List ℕ) → GoodLookup s x (length cells)
     → Holds (2 ^ s .k) (iOf s (lookupReport s x cells .n)) x (2 ^ 15)
-look-up-contains s x cells done =
-    let n : ℕ = indexOf s x in
-    let f : ℕ = getD cells n 0 in
-    let tests : List Test = divisorTests s x (length cells) ++ (tooWide s n f ∷ []) in
-    let passed = all-passed tests (omega arith) (sym (answer-number (λ (r : Report). r .number) refused (lookedUp n (jOf s f)) tests (λ b. refl) refl) ∙ done) in
-    let good = lookup-good {s = s} {x = x} {lent = length cells} (passed-parts (divisorTests s x (length cells)) (tooWide s n f ∷ []) passed .0) in
-    subst (λ (r : Report). Holds (2 ^ s .k) (iOf s (r .n)) x (2 ^ 15)) (done-by refused (lookedUp n (jOf s f)) tests passed)
-    (interval-contains s x (good .table .widths .narrow-in) (good .from) (good .to))
+look-up-contains s x cells good = by-width (isWide s (getD cells (indexOf s x) 0)) refl
+  where
+    contains : (r : Report) → r .n ≡ indexOf s x → r ≡ lookupReport s x cells → Holds (2 ^ s .k) (iOf s (lookupReport s x cells .n)) x (2 ^ 15)
+    contains r n e =
+        rw (← e, n) (interval-contains s x (good .table .widths .narrow-in) (good .from) (good .to))
+
+    by-width : (wide : Bool) → isWide s (getD cells (indexOf s x) 0) ≡ wide → Holds (2 ^ s .k) (iOf s (lookupReport s x cells .n)) x (2 ^ 15)
+    by-width true e = contains _ refl (field-refused cells good (indexOf s x) e)
+    by-width false e = contains _ refl (field-found cells good (indexOf s x) e)
 
 -- Document 01: "of all the cells, its answer depends on cell n alone"
 pub lookup-by-one-cell : (s : Shape) (x : ℕ) (a b : List ℕ) → 2 ^ s .k ≤ length a → 2 ^ s .k ≤ length b

@@ -1,5 +1,5 @@
 -- "A shown bank is never empty; an empty stretch means refusal." Assumes nothing.
-use Prim.Native.Nat.{ℕ, _-_, _≤_, _<_}
+use Prim.Native.Nat.{ℕ, _-_, _<_}
 use mathlib.Core.List.{List, []}
 use mathlib.Core.Path.{_≡_, sym, ap, _∙_, refl}
 use native.Mathlib.Omega.{arith}
@@ -14,15 +14,15 @@ use Rattle.table.proofs.Laws.Banks.{bank-within}
 use Rattle.table.proofs.Laws.Good.{view-good, good-view}
 
 module _ (k h b : ℕ) (cells : List ℕ) where
-  pub shown-is : 1 ≤ k → GoodView k h b (length cells) → shown k h b cells ≡ bankOf k h b cells
-  shown-is some good = sym (done-by (λ (_ : Reply). []) (bankOf k h b cells) (viewTests k h b (length cells)) (good-view some good))
+  pub shown-is : GoodView k h b (length cells) → shown k h b cells ≡ bankOf k h b cells
+  shown-is good = sym (done-by (λ (_ : Reply). []) (bankOf k h b cells) (viewTests k h b (length cells)) (good-view good))
 
   pub bank-whole : GoodView k h b (length cells) → length (bankOf k h b cells) ≡ bankSize k h
   bank-whole good =
       simp (length-take, length-drop) (omega (arith, bank-within k h b (good .bank .low) (good .bank .number), good .enough))
 
-  pub shown-whole : 1 ≤ k → GoodView k h b (length cells) → length (shown k h b cells) ≡ bankSize k h
-  shown-whole some good = ap length (shown-is some good) ∙ bank-whole good
+  pub shown-whole : GoodView k h b (length cells) → length (shown k h b cells) ≡ bankSize k h
+  shown-whole good = ap length (shown-is good) ∙ bank-whole good
 
   pub empty-is-refused : shown k h b cells ≡ [] → 0 < refusal (viewTests k h b (length cells)) .number
   empty-is-refused e =

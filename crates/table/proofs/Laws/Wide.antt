@@ -1,17 +1,18 @@
 -- Over-wide fields of a list, one after the other. Assumes nothing.
 use Prim.Native.Nat.{ℕ, zero, suc, _+_, _<_}
 use mathlib.Core.Bool.{Bool, true, false, _||_, cond, false≢true}
-use mathlib.Core.List.{List, [], _∷_}
-use mathlib.Core.Path.{_≡_, refl, ap, sym, _∙_}
+use mathlib.Core.List.{List, [], _∷_, _++_}
+use mathlib.Core.Path.{_≡_, refl, ap, sym, subst, _∙_}
 use native.Mathlib.Numerals.{add-one}
 use native.Mathlib.Omega.{arith}
 use lib.ListN.{length, drop, getD, drop-of-length-le}
 use lib.Seq.{drop-cons}
+use Rattle.units.specs.Refusals.{Reply, reply, Test, answer}
 use Rattle.units.specs.declared.shapes.Shape.{Shape}
 use Rattle.units.proofs.Laws.Order.{by-order}
-use Rattle.units.proofs.Laws.Tests.{or-false}
+use Rattle.units.proofs.Laws.Tests.{Each, or-false}
 use Rattle.entry.specs.Fields.{isWide}
-use Rattle.table.specs.Wide.{anyWide, firstWide}
+use Rattle.table.specs.Wide.{anyWide, firstWide, wideAmong}
 
 -- where no field is over-wide, the first is not, and none after it
 pub none-wide : (s : Shape) (f : ℕ) (fs : List ℕ) → anyWide s (f ∷ fs) ≡ false → (isWide s f ≡ false) × (anyWide s fs ≡ false)
@@ -59,6 +60,31 @@ first-wide-is-smallest s n (f ∷ fs) e = by-field (isWide s f) refl (first-wide
             → (i : ℕ) → i < suc at → isWide s (getD (f ∷ fs) i 0) ≡ false
         below-first at first later zero h = first
         below-first at first later (suc i) h = later i (omega arith)
+
+-- so a call that looks for 5 last, and answers 5, names the smallest n
+pub five-names-smallest : {A : Type 0} (number named : A → ℕ) (refuse : Reply → A) (done : A)
+    → ((b : Reply) → (number (refuse b) ≡ b .number) × (named (refuse b) ≡ b .n))
+    → number done ≡ 0
+    → (tests : List Test)
+    → Each (λ (t : Test). t .gives .number < 5) tests
+    → (s : Shape) (n : ℕ) (fs : List ℕ)
+    → number (answer refuse done (tests ++ (wideAmong s n fs ∷ []))) ≡ 5
+    → SmallestWide s n fs (named (answer refuse done (tests ++ (wideAmong s n fs ∷ []))))
+unfolding answer
+five-names-smallest {A} number named refuse done given done-is-0 [] below s n fs = by-wide (anyWide s fs) refl
+  where
+    by-wide : (wide : Bool) → anyWide s fs ≡ wide → number (cond wide (refuse (reply 5 (firstWide s n fs))) done) ≡ 5
+        → SmallestWide s n fs (named (cond wide (refuse (reply 5 (firstWide s n fs))) done))
+    by-wide true w five = subst (SmallestWide s n fs) (sym (given (reply 5 (firstWide s n fs)) .1)) (first-wide-is-smallest s n fs w)
+    by-wide false w five = absurd (omega (arith, done-is-0, five))
+five-names-smallest {A} number named refuse done given done-is-0 (t ∷ ts) below s n fs =
+    by-test (t .holds) (answer refuse done (ts ++ (wideAmong s n fs ∷ []))) (five-names-smallest number named refuse done given done-is-0 ts (below .1) s n fs)
+  where
+    by-test : (holds : Bool) (rest : A) → (number rest ≡ 5 → SmallestWide s n fs (named rest))
+        → number (cond holds (refuse (t .gives)) rest) ≡ 5
+        → SmallestWide s n fs (named (cond holds (refuse (t .gives)) rest))
+    by-test true rest later five = absurd (omega (arith, given (t .gives) .0, five, below .0))
+    by-test false rest later five = later five
 
 module _ (s : Shape) (cells : List ℕ) (at : ℕ) where
   pub none-wide-from : at < length cells → anyWide s (drop at cells) ≡ false

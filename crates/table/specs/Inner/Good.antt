@@ -10,6 +10,7 @@ use Rattle.table.specs.Wide.{anyWide}
 
 -- 1, and 4 for h and b
 pub record GoodBank (k h b : ℕ) : Type 0 where
+  pub some : 1 ≤ k
   pub narrow : k ≤ 15
   pub low : h ≤ k
   pub number : b < 2 ^ h

@@ -1,11 +1,13 @@
--- A verdict that is not yes names the first entry that is not best, and that one's worst error is above the least. Assumes nothing.
+-- A verdict that is not yes names the first entry that is not best, and that one's worst error is above the least; with 5, the first
+-- field that is over-wide. Assumes nothing.
 use Prim.Native.Nat.{ℕ, _^_, _<_}
 use mathlib.Core.Bool.{false}
 use mathlib.Core.List.{List}
-use mathlib.Core.Path.{_≡_}
+use mathlib.Core.Path.{_≡_, refl}
 use native.Mathlib.Omega.{arith}
 use borrow.Author.Tests.{eqb-false}
-use lib.ListN.{take}
+use lib.ListN.{length, take}
+use Rattle.units.specs.Refusals.{tableTests}
 use Rattle.units.specs.declared.shapes.Shape.{Shape}
 use Rattle.units.proofs.Laws.Order.{by-order}
 use Rattle.entry.specs.Errors.{unit, iOf, jOf, worst}
@@ -14,8 +16,9 @@ use Rattle.entry.specs.Least.{leastWorst, isBest}
 use Rattle.entry.proofs.Laws.Fields.{field-in-range}
 use Rattle.entry.proofs.Laws.Least.{least-below}
 use Rattle.table.specs.Inner.Good.{GoodFields}
-use Rattle.verdict.specs.Check.{checkReport}
-use Rattle.verdict.proofs.Laws.Scan.{FirstFailing, finding-is-first-failing}
+use Rattle.table.proofs.Laws.Wide.{SmallestWide, five-names-smallest}
+use Rattle.verdict.specs.Check.{Report, refused, checkReport}
+use Rattle.verdict.proofs.Laws.Scan.{FirstFailing, finding-is-first-failing, scan-number}
 use Rattle.verdict.proofs.Laws.Verdict.{scanned}
 
 -- an entry in range that is not best has a larger worst error than the least
@@ -32,3 +35,15 @@ pub check-names-first-failing : (s : Shape) (cells : List ℕ) → GoodFields s 
 check-names-first-failing s cells g e =
     let same = scanned s cells g in
     rw (← same) (finding-is-first-failing (isBest s) s (take (2 ^ s .k) cells) (rw (← same) at e))
+
+-- 5: "number and the smallest such n"
+pub check-names-smallest : (s : Shape) (cells : List ℕ) → checkReport s cells .number ≡ 5
+    → SmallestWide s 0 (take (2 ^ s .k) cells) (checkReport s cells .n)
+check-names-smallest s cells =
+    five-names-smallest (λ (r : Report). r .number) (λ (r : Report). r .n) refused _ (λ b. (refl, refl))
+    (scan-number (isBest s) s 0 (take (2 ^ s .k) cells))
+    (tableTests s (length cells))
+    (omega arith)
+    s
+    0
+    (take (2 ^ s .k) cells)

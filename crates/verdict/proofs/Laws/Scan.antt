@@ -1,8 +1,8 @@
 -- A scan for the first entry that fails a test takes one cell after the other. The test, `good`, is any test of an n and a j.
 -- Assumes nothing.
 use Prim.Native.Nat.{ℕ, zero, suc, _+_, _^_, _≤_, _<_}
-use mathlib.Core.Bool.{Bool, true, false, false≢true}
-use mathlib.Core.List.{List}
+use mathlib.Core.Bool.{Bool, true, false, cond, false≢true}
+use mathlib.Core.List.{List, [], _∷_}
 use mathlib.Core.Path.{_≡_, refl, sym, _∙_}
 use native.Mathlib.Nat.{le-refl}
 use native.Mathlib.Numerals.{add-one}
@@ -35,6 +35,16 @@ pub record FirstFailing (good : ℕ → ℕ → Bool) (s : Shape) (cells : List 
   pub its-least : r .least ≡ leastWorst s (r .n)
   pub fails : good (r .n) (jOf s (getD cells (r .n) 0)) ≡ false
   pub good-before : (i : ℕ) → first ≤ i → i < r .n → good i (jOf s (getD cells i 0)) ≡ true
+
+-- a scan is done, whether or not it finds an entry
+pub scan-number : (good : ℕ → ℕ → Bool) (s : Shape) (n : ℕ) (fields : List ℕ) → firstFailing good s n fields .number ≡ 0
+unfolding firstFailing
+scan-number good s n [] = refl
+scan-number good s n (f ∷ fs) = by-test (good n (jOf s f)) (firstFailing good s (suc n) fs) (scan-number good s (suc n) fs)
+  where
+    by-test : (passes : Bool) (rest : Report) → rest .number ≡ 0 → cond passes rest (failing s n (jOf s f)) .number ≡ 0
+    by-test true rest e = e
+    by-test false rest e = refl
 
 module _ (good : ℕ → ℕ → Bool) (s : Shape) (cells : List ℕ) where
   pub ends-yes : (at : ℕ) → length cells ≤ at → scanFrom good s cells at ≡ passed

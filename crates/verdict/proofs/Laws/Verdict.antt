@@ -6,7 +6,7 @@ use mathlib.Core.Path.{_≡_, refl, sym, ap, _∙_}
 use native.Mathlib.Omega.{arith}
 use borrow.Author.Tests.{le-ltb, eq-eqb, eqb-true}
 use lib.ListN.{length, take, getD, length-append}
-use lib.Seq.{length-take-le, getD-take, take-append-le}
+use lib.Seq.{getD-take, take-append-le}
 use Rattle.units.specs.Refusals.{answer, refusal}
 use Rattle.units.specs.Inner.Good.{GoodTable}
 use Rattle.units.specs.declared.shapes.Shape.{Shape}
@@ -18,7 +18,7 @@ use Rattle.entry.specs.Rule.{ruleField}
 use Rattle.entry.proofs.Laws.Table.{rule-field-narrow, rule-field-reaches-least}
 use Rattle.table.specs.Inner.Good.{GoodFields}
 use Rattle.table.specs.Wide.{fieldTests}
-use Rattle.table.proofs.Laws.Good.{fields-good, good-fields}
+use Rattle.table.proofs.Laws.Good.{fields-good, good-fields, table-size}
 use Rattle.table.proofs.Laws.Wide.{each-narrow}
 use Rattle.verdict.specs.Check.{Report, refused, passed, firstFailing, checkReport}
 use Rattle.verdict.proofs.Laws.Scan.{scanFrom, yes-all-pass, all-pass-yes}
@@ -43,22 +43,19 @@ module _ (s : Shape) (cells : List ℕ) where
   pub scanned : GoodFields s cells → scanFrom (isBest s) s (take (2 ^ s .k) cells) 0 ≡ checkReport s cells
   scanned g = done-by refused (firstFailing (isBest s) s 0 (take (2 ^ s .k) cells)) (fieldTests s cells) (good-fields g)
 
-  pub size : GoodTable s (length cells) → length (take (2 ^ s .k) cells) ≡ 2 ^ s .k
-  size g = length-take-le (2 ^ s .k) cells (g .enough)
-
   yes-all-best : checkReport s cells .yes ≡ true → AllBest s cells
   yes-all-best e n h =
       let g = yes-good e in
       rw (← (getD-take (2 ^ s .k) cells n 0 h))
       (eqb-true _ _
-      (yes-all-pass (isBest s) s (take (2 ^ s .k) cells) (rw (← (scanned g)) at e) n (omega (arith, size (g .table)))))
+      (yes-all-pass (isBest s) s (take (2 ^ s .k) cells) (rw (← (scanned g)) at e) n (omega (arith, table-size cells (g .table)))))
 
   all-best-yes : GoodFields s cells → AllBest s cells → checkReport s cells ≡ passed
   all-best-yes g best =
       sym (scanned g)
       ∙ all-pass-yes (isBest s) s (take (2 ^ s .k) cells)
       (λ n h.
-      let within : n < 2 ^ s .k = omega (arith, size (g .table)) in
+      let within : n < 2 ^ s .k = omega (arith, table-size cells (g .table)) in
       rw (getD-take (2 ^ s .k) cells n 0) (eq-eqb (worst (unit s) (iOf s n) (jOf s (getD cells n 0))) (leastWorst s n) (best n within)))
 
   -- The order, demand 2: "The checker says yes exactly to tables whose every entry reaches that least error": no reason for refusal
@@ -76,7 +73,7 @@ module _ (s : Shape) (cells : List ℕ) where
         narrow =
             each-narrow s (take (2 ^ s .k) cells)
             (λ n h.
-            let within : n < 2 ^ s .k = omega (arith, size g) in
+            let within : n < 2 ^ s .k = omega (arith, table-size cells g) in
             rw (getD-take (2 ^ s .k) cells n 0, rule n within) (rule-field-narrow s within));
       })
       (λ n h. rw (rule n h) (rule-field-reaches-least s h))
