@@ -7,7 +7,6 @@ ghost use Rattle.entry.specs.Inner.Good.{GoodPlace};
 ghost use Rattle.entry.specs.Inner.Quotient.{Before};
 use crate::fields::fields_of;
 use crate::numbers::left_number;
-use crate::numbers::unit_of;
 use units::Interval;
 use units::Shape;
 use units::power;
@@ -18,7 +17,7 @@ use units::power;
 //     over = 2^(k+m+2) + i - (2i+1)·2^m    and    by = 2i+1,
 //
 // so over/by, rounded down, is the whole number nearest to 2^(k+m+2)/(2i+1), less the 2^m that is not
-// stored; over falls by 2^(m+1) - 1 and by rises by 2.
+// stored; over falls by 2^(m+1) - 1 and by rises by 2. It is worked out as (2^(k+2) - by)·2^m + i.
 pub struct Quotient {
     pub over: u32,
     pub by: u32,
@@ -36,7 +35,7 @@ pub fn quotient_before(shape: Shape, n: Interval) -> Quotient
     let by = 2 * i - 1;
     let size = power(shape.m);
     Quotient {
-        over: (2 * unit_of(shape) + i - 1 - by * size) as u32,
+        over: ((4 * power(shape.k) - by) * size + i - 1) as u32,
         by: by as u32,
         fall: (2 * size - 1) as u32,
         rise: 2,

@@ -16,31 +16,36 @@ use Rattle.entry.proofs.Laws.Good.{interval-bound, unit-bound}
 use Rattle.entry.proofs.Laws.Rule.{nearest-to-odd}
 use Rattle.entry.proofs.Laws.Table.{unit-is, smallest-within}
 
--- the numbers of an interval, and the product that is taken off before it
-pub record Sized (i u p : ℕ) : Type 0 where
+-- the numbers of an interval, top the first i, and the products before it
+pub record Sized (i u p top : ℕ) : Type 0 where
   pub some : 0 < i
   pub interval : i < 2 ^ 16
+  pub top-within : top ≤ 2 ^ 15
+  pub below : i < 2 * top
   pub unit-within : u ≤ 2 ^ 31
   pub power-positive : 0 < p
   pub power-within : p ≤ 2 ^ 15
   pub enough : u ≤ 2 * (i * p)
-  pub fits : 2 * (i * p) + 2 * p ≤ 2 * u
   pub before : (2 * i - 1) * p + p ≡ 2 * (i * p)
+  pub rest : (4 * top - (2 * i - 1)) * p + (2 * i - 1) * p ≡ 2 * u
 
-pub sized : {s : Shape} {n : ℕ} → GoodPlace s n → Sized (iOf s n) (unit s) (2 ^ s .m)
+pub sized : {s : Shape} {n : ℕ} → GoodPlace s n → Sized (iOf s n) (unit s) (2 ^ s .m) (2 ^ s .k)
 sized {s} {n} g =
     let i : ℕ = iOf s n in
     let left : 2 ^ s .k ≤ i = omega arith in
     let odd : 2 * i - 1 + 1 ≡ 2 * i = omega (arith, pow-pos (s .k)) in
+    let whole : 4 * 2 ^ s .k - (2 * i - 1) + (2 * i - 1) ≡ 4 * 2 ^ s .k = omega (arith, g .interval) in
     record {
       some = omega (arith, pow-pos (s .k));
       interval = interval-bound g;
+      top-within = pow-mono (g .widths .narrow-in);
+      below = omega (arith, g .interval);
       unit-within = unit-bound (g .widths);
       power-positive = pow-pos (s .m);
       power-within = pow-mono (g .widths .narrow-out);
       enough = omega (arith, unit-is s, mul-le-mul-left (2 ^ s .m) left);
-      fits = omega (arith, smallest-within s (g .interval));
       before = omega (arith, ap (λ (x : ℕ). x * 2 ^ s .m) odd);
+      rest = omega (arith, unit-is s, ap (λ (x : ℕ). x * 2 ^ s .m) whole);
     }
 
 module _ {s : Shape} {n : ℕ} {q : Quotient} (g : GoodPlace s n) (b : Before s n q) where
