@@ -11,7 +11,7 @@
 uint32_t quirelinnet_build(uint32_t k, uint32_t m, uint16_t *table, size_t lent);
 void quirelinnet_check(uint32_t k, uint32_t m, const uint16_t *table, size_t lent, uint64_t out[5]);
 void quirelinnet_survey(uint32_t k, uint32_t m, const uint16_t *table, size_t lent, uint64_t out[4]);
-void quirelinnet_look_up(uint32_t k, uint32_t m, uint32_t x, const uint16_t *table, size_t lent, uint64_t out[3]);
+void quirelinnet_look_up(uint32_t k, uint32_t m, uint32_t x, const uint16_t *table, size_t lent, uint64_t out[4]);
 
 static uint32_t no_build(uint32_t k, uint32_t m, uint16_t *table, size_t lent) {
     (void)k, (void)m, (void)table, (void)lent;
@@ -39,7 +39,7 @@ __attribute__((noinline)) void mark(void) {
     __asm__ volatile("");
 }
 
-enum { CELLS = 32768 };
+enum { CELLS = 32768, DIVISORS = 65535 };
 static uint16_t table[WHO][CELLS];
 static uint64_t answer[WHO][5];
 
@@ -77,15 +77,15 @@ static void widths(uint32_t k, uint32_t m) {
 // Every divisor once.
 static void look_ups(uint32_t k, uint32_t m) {
     for (int w = 0; w < WHO; w++) {
-        printf("look_up %u %u 32768 call %s\n", k, m, who[w]);
+        printf("look_up %u %u %u call %s\n", k, m, DIVISORS, who[w]);
         mark();
-        for (uint32_t x = 32768; x < 65536; x++) look_up[w](k, m, x, table[PLAIN], CELLS, answer[w]);
+        for (uint32_t x = 1; x <= DIVISORS; x++) look_up[w](k, m, x, table[PLAIN], CELLS, answer[w]);
         mark();
     }
-    for (uint32_t x = 32768; x < 65536; x++) {
+    for (uint32_t x = 1; x <= DIVISORS; x++) {
         look_up[PROVED](k, m, x, table[PLAIN], CELLS, answer[PROVED]);
         look_up[PLAIN](k, m, x, table[PLAIN], CELLS, answer[PLAIN]);
-        same("look_up", answer[PROVED], answer[PLAIN], 3 * sizeof(uint64_t));
+        same("look_up", answer[PROVED], answer[PLAIN], 4 * sizeof(uint64_t));
     }
 }
 

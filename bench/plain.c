@@ -83,18 +83,20 @@ void plain_survey(uint32_t k, uint32_t m, const uint16_t *table, size_t lent, ui
     survey_answer(out, 0, worst, worst_n, side);
 }
 
-static void look_up_answer(uint64_t out[3], uint64_t number, uint64_t n, uint64_t j) {
+static void look_up_answer(uint64_t out[4], uint64_t number, uint64_t s, uint64_t n, uint64_t j) {
     out[0] = number;
-    out[1] = n;
-    out[2] = j;
+    out[1] = s;
+    out[2] = n;
+    out[3] = j;
 }
 
-void plain_look_up(uint32_t k, uint32_t m, uint32_t x, const uint16_t *table, size_t lent, uint64_t out[3]) {
+void plain_look_up(uint32_t k, uint32_t m, uint32_t x, const uint16_t *table, size_t lent, uint64_t out[4]) {
     uint32_t number = refusal(k, m, lent);
-    if (number != 0) return look_up_answer(out, number, 0, 0);
-    if (x < 32768 || x > 65535) return look_up_answer(out, 6, 0, 0);
-    uint32_t n = (x >> (15 - k)) - (1u << k);
+    if (number != 0) return look_up_answer(out, number, 0, 0, 0);
+    if (x == 0 || x > 65535) return look_up_answer(out, 6, 0, 0, 0);
+    uint32_t s = __builtin_clz(x) - 16;
+    uint32_t n = (x << s >> (15 - k)) - (1u << k);
     uint32_t f = table[n];
-    if (f >= 1u << m) return look_up_answer(out, 5, n, 0);
-    look_up_answer(out, 0, n, (1u << m) + f);
+    if (f >= 1u << m) return look_up_answer(out, 5, 0, n, 0);
+    look_up_answer(out, 0, s, n, (1u << m) + f);
 }

@@ -28,7 +28,7 @@ uint32_t plain_build(uint32_t k, uint32_t m, uint16_t *table, size_t lent);
 void plain_check(uint32_t k, uint32_t m, const uint16_t *table, size_t lent, uint64_t out[5]);
 // number, worst, n, side
 void plain_survey(uint32_t k, uint32_t m, const uint16_t *table, size_t lent, uint64_t out[4]);
-// number, n, j
-void plain_look_up(uint32_t k, uint32_t m, uint32_t x, const uint16_t *table, size_t lent, uint64_t out[3]);
+// number, s, n, j
+void plain_look_up(uint32_t k, uint32_t m, uint32_t x, const uint16_t *table, size_t lent, uint64_t out[4]);
 
 #endif

@@ -1,4 +1,6 @@
 //! The calls of document 01 after its prose, with its refusal numbers.
+//! Look up and number 6 are those of document 02, L1, which decides where it
+//! changes document 01.
 //! Every answer starts as all zeros: "Fields that an answer doesn't use are
 //! zero, with any number, 0 and 5 too."
 
@@ -60,7 +62,8 @@ fn refusal(tests: Tests) -> u64 {
         }
     }
     if let Some(x) = tests.x {
-        if x < 32768 || x > 65535 {
+        // Document 02, L1: "6 now means X is 0 or above 65535."
+        if x == 0 || x > 65535 {
             return 6;
         }
     }
@@ -343,15 +346,35 @@ pub fn check(k: u64, m: u64, cells: &[u16]) -> Check {
 
 // ---- Look up ---------------------------------------------------------------
 
+/// Document 02, L1: it is to "give s with n and j".
 #[derive(Debug, Default, PartialEq)]
 pub struct LookUp {
     pub number: u64,
+    pub s: u64,
     pub n: u64,
     pub j: u64,
 }
 
-/// "takes a divisor X from 32768 to 65535 [...] The index is
-/// floor(X/2^(15-k)) - 2^k. It gives n and j".
+impl LookUp {
+    /// The answer's values in the order in which they are folded and printed.
+    pub fn values(&self) -> [u64; 4] {
+        [self.number, self.s, self.n, self.j]
+    }
+}
+
+/// Document 02, L1: "the least s that brings it to 32768 or more". Every s is
+/// tried in order; x is not 0, so one of them does.
+fn least_shift(x: u64) -> u64 {
+    let mut s = 0;
+    while x << s < 32768 {
+        s += 1;
+    }
+    s
+}
+
+/// Document 02, L1: "Lookup shall take any X from 1 to 65535, shift it left by
+/// the least s that brings it to 32768 or more, and give s with n and j." For
+/// the shifted X document 01 stands: "The index is floor(X/2^(15-k)) - 2^k."
 pub fn look_up(k: u64, m: u64, x: u64, cells: &[u16]) -> LookUp {
     let number = refusal(Tests {
         k,
@@ -363,10 +386,11 @@ pub fn look_up(k: u64, m: u64, x: u64, cells: &[u16]) -> LookUp {
     if number != 0 {
         return LookUp { number, ..LookUp::default() };
     }
-    let n = x / (1 << (15 - k)) - (1 << k);
+    let s = least_shift(x);
+    let n = (x << s) / (1 << (15 - k)) - (1 << k);
     let field = cells[n as usize];
     if too_wide(m, field) {
         return LookUp { number: 5, n, ..LookUp::default() };
     }
-    LookUp { number: 0, n, j: j_of(m, field) as u64 }
+    LookUp { number: 0, s, n, j: j_of(m, field) as u64 }
 }

@@ -1,7 +1,9 @@
-//! Document 01's own numbers, as tests of this program.
+//! Document 01's own numbers, and for the look-up those of document 02, L1, as
+//! tests of this program.
 
 use crate::calls::*;
 use crate::hostile;
+use crate::lookups;
 use crate::rules::{self, BOTH, LEFT, RIGHT};
 use crate::widths;
 use std::collections::BTreeSet;
@@ -23,6 +25,14 @@ fn done(n: u64, worst: u64, side: u64) -> Survey {
 
 fn error(low: i64, high: i64, worst: u64, side: u64) -> EntryError {
     EntryError { number: 0, n: 0, low, high, worst, side }
+}
+
+fn looked_up(s: u64, n: u64, j: u64) -> LookUp {
+    LookUp { number: 0, s, n, j }
+}
+
+fn refused(number: u64, n: u64) -> LookUp {
+    LookUp { number, s: 0, n, j: 0 }
 }
 
 // ---- The twelve examples ---------------------------------------------------
@@ -90,13 +100,16 @@ fn example_10() {
     assert_eq!(survey(10, 10, &fields(10, 10)), done(36, 1506, RIGHT));
 }
 
+/// Document 02, L1: "In example 11, 32767 is no longer refused: s = 1, n = 31,
+/// j = 32. Refusals: 6 now means X is 0 or above 65535."
 #[test]
 fn example_11() {
     let table = fields(5, 5);
-    assert_eq!(look_up(5, 5, 40960, &table), LookUp { number: 0, n: 8, j: 51 });
-    assert_eq!(look_up(5, 5, 65535, &table), LookUp { number: 0, n: 31, j: 32 });
-    assert_eq!(look_up(5, 5, 32767, &table), LookUp { number: 6, n: 0, j: 0 });
-    assert_eq!(look_up(5, 5, 65536, &table), LookUp { number: 6, n: 0, j: 0 });
+    assert_eq!(look_up(5, 5, 40960, &table), looked_up(0, 8, 51));
+    assert_eq!(look_up(5, 5, 65535, &table), looked_up(0, 31, 32));
+    assert_eq!(look_up(5, 5, 32767, &table), looked_up(1, 31, 32));
+    assert_eq!(look_up(5, 5, 65536, &table), refused(6, 0));
+    assert_eq!(look_up(5, 5, 0, &table), refused(6, 0));
 }
 
 #[test]
@@ -202,11 +215,15 @@ fn order_of_refusals() {
     assert_eq!(build_bank(2, 2, 1, 1, &mut []), 3);
     assert_eq!(entry_error(2, 2, 4, 4).number, 4);
     assert_eq!(entry_error(2, 2, 3, 4), EntryError { number: 5, n: 3, ..EntryError::default() });
-    assert_eq!(look_up(2, 2, 0, &[9; 3]).number, 3);
-    assert_eq!(look_up(2, 2, 0, &[9; 4]).number, 6);
-    // "of all the cells, its answer depends on cell n alone"
-    assert_eq!(look_up(2, 2, 65535, &[9, 9, 9, 9]), LookUp { number: 5, n: 3, j: 0 });
-    assert_eq!(look_up(2, 2, 65535, &[9, 9, 9, 0]), LookUp { number: 0, n: 3, j: 4 });
+    assert_eq!(look_up(0, 0, 0, &[9; 3]), refused(1, 0));
+    assert_eq!(look_up(2, 0, 0, &[9; 3]), refused(2, 0));
+    assert_eq!(look_up(2, 2, 0, &[9; 3]), refused(3, 0));
+    assert_eq!(look_up(2, 2, 0, &[9; 4]), refused(6, 0));
+    // "of all the cells, its answer depends on cell n alone"; s is not used by 5
+    assert_eq!(look_up(2, 2, 65535, &[9, 9, 9, 9]), refused(5, 3));
+    assert_eq!(look_up(2, 2, 65535, &[9, 9, 9, 0]), looked_up(0, 3, 4));
+    assert_eq!(look_up(2, 2, 7, &[9, 9, 9, 9]), refused(5, 3));
+    assert_eq!(look_up(2, 2, 7, &[9, 9, 9, 0]), looked_up(13, 3, 4));
     // 5 is looked for in the whole table before anything else is found
     assert_eq!(check(2, 2, &[0, 0, 0, 4]), Check { number: 5, n: 3, ..Check::default() });
     assert_eq!(survey(2, 2, &[3, 2, 7, 7]), Survey { number: 5, n: 2, worst: 0, side: 0 });
@@ -246,19 +263,77 @@ fn tally_agrees_with_survey() {
     assert_eq!(Tally::start(5, 16, 99).take(32).0, 2);
 }
 
+// ---- Look-ups --------------------------------------------------------------
+
+/// Every X and every k: the shift brings X to 32768 or more and not past 65535,
+/// and "Interval n holds the x with i/2^k <= x < (i+1)/2^k", x = X·2^s/32768.
+/// The fields are 0, 1, 2 and so on, so j tells which cell was read.
+#[test]
+fn every_divisor_finds_its_interval() {
+    let cells: Vec<u16> = (0..32768).collect();
+    for k in 1..=15 {
+        for x in 1..=65535 {
+            let LookUp { number, s, n, j } = look_up(k, 15, x, &cells[..1 << k]);
+            let shifted = x * (1 << s);
+            assert!(32768 <= shifted && shifted < 65536);
+            let i = (1 << k) + n;
+            assert!(i * 32768 <= shifted * (1 << k) && shifted * (1 << k) < (i + 1) * 32768);
+            assert_eq!((number, j), (0, 32768 + n));
+        }
+    }
+}
+
+#[test]
+fn the_tables_of_widths_are_the_built_ones() {
+    for k in 1..=6 {
+        for m in 1..=6 {
+            assert_eq!(widths::fields(k, m), fields(k as u64, m as u64));
+        }
+    }
+}
+
+/// (1,1) has the values 3, 2. The X that are shifted by s run from 2^(15-s) to
+/// 2^(16-s) - 1, and those from 3·2^(14-s) on lie in interval 1.
+#[test]
+fn a_digest_line_of_lookups() {
+    let mut digest = 0;
+    for s in (0..=15).rev() {
+        for x in 1 << (15 - s)..1 << (16 - s) {
+            let (n, j) = if 2 * x >= 3 << (15 - s) { (1, 2) } else { (0, 3) };
+            digest = [0, s, n, j].iter().fold(digest, |d, &v| rules::fold(d, v));
+        }
+    }
+    assert_eq!(lookups::digest_line(1, 1), format!("1 1 {digest}"));
+}
+
+#[test]
+fn answer_lines_of_lookups() {
+    assert_eq!(lookups::answers_line(5, 5, 40960, 32), "5 5 40960 32: 5 0 8 0, 0 0 8 51");
+    assert_eq!(lookups::answers_line(5, 5, 32767, 32), "5 5 32767 32: 5 0 31 0, 0 1 31 32");
+    assert_eq!(lookups::answers_line(5, 5, 32767, 31), "5 5 32767 31: 3 0 0 0, 3 0 0 0");
+    assert_eq!(lookups::answers_line(5, 5, 65536, 32), "5 5 65536 32: 6 0 0 0, 6 0 0 0");
+    assert_eq!(lookups::answers_line(0, 5, 40960, 32), "0 5 40960 32: 1 0 0 0, 1 0 0 0");
+    assert_eq!(lookups::answers_line(5, 16, 40960, 32), "5 16 40960 32: 2 0 0 0, 2 0 0 0");
+}
+
 // ---- The drive -------------------------------------------------------------
 
 /// The drive makes every call give every number it can give, and no other.
+/// Both answers of the check and every shift of a look-up come up.
 #[test]
 fn the_drive_reaches_every_refusal() {
     let mut seen = vec![BTreeSet::new(); 10];
     let (mut yes, mut no) = (0, 0);
+    let mut shifts = BTreeSet::new();
     let mut drive = hostile::Drive::new();
     for _ in 0..hostile::CALLS {
         let (op, values) = drive.next_call();
         seen[op as usize].insert(values[0]);
         if op == 7 && values[0] == 0 {
             if values[1] == 1 { yes += 1 } else { no += 1 }
+        }
+        if op == 8 && values[0] == 0 {
+            shifts.insert(values[1]);
         }
     }
     let can_give: [&[u64]; 10] = [
@@ -278,4 +353,5 @@ fn the_drive_reaches_every_refusal() {
     }
     println!("check said yes {yes} times, no {no} times");
     assert!(yes > 0 && no > 0);
+    assert!(shifts.into_iter().eq(0..=15));
 }

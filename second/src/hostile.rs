@@ -33,13 +33,18 @@ impl Drive {
         }
     }
 
+    /// The good ones are drawn so that every shift comes up.
     fn divisor(&mut self) -> u64 {
         match self.pick(8) {
             0 => 0,
-            1 => 32767,
-            2 => 65536,
+            1 => 65536,
+            2 => 2147483648,
             3 => 4294967295,
-            _ => 32768 + self.pick(32768),
+            _ => {
+                let y = 32768 + self.pick(32768);
+                let t = self.pick(16);
+                y / (1 << t)
+            }
         }
     }
 
@@ -82,10 +87,7 @@ impl Drive {
                 let c = calls::check(k, m, &self.cells[..lent]);
                 vec![c.number, c.yes, c.n, c.worst, c.least]
             }
-            8 => {
-                let l = calls::look_up(k, m, x, &self.cells[..lent]);
-                vec![l.number, l.n, l.j]
-            }
+            8 => calls::look_up(k, m, x, &self.cells[..lent]).values().to_vec(),
             _ => {
                 self.cells[n as usize % 64] = f;
                 let (number1, n1, tally) = Tally::start(k, m, n).take(f);

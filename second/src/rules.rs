@@ -91,7 +91,7 @@ pub fn builders_choice(k: i64, m: i64, n: i64, equally_good: &[i64]) -> i64 {
     choice
 }
 
-/// The digest both modes print: "start d = 0, for each field
+/// The digest every mode prints: "start d = 0, for each field
 /// d = (d * 31 + f) mod 2^32".
 pub fn digest(fields: &[u16]) -> u64 {
     fields.iter().fold(0, |d, &f| fold(d, f as u64))

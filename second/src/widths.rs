@@ -33,12 +33,21 @@ fn table(k: i64, m: i64) -> Vec<Found> {
     found
 }
 
+fn fields_of(found: &[Found]) -> Vec<u16> {
+    found.iter().map(|f| f.field).collect()
+}
+
+/// The fields of the built table, in index order.
+pub fn fields(k: i64, m: i64) -> Vec<u16> {
+    fields_of(&table(k, m))
+}
+
 /// `K M DIGEST WORST N SIDE TIES`
 pub fn line(k: i64, m: i64) -> String {
     let found = table(k, m);
     assert!(found.iter().all(|f| f.equally_good == 1 || f.equally_good == 2));
     let ties = found.iter().filter(|f| f.equally_good == 2).count();
-    let fields: Vec<u16> = found.iter().map(|f| f.field).collect();
+    let fields = fields_of(&found);
     let survey = calls::survey(k as u64, m as u64, &fields);
     assert_eq!(survey.number, 0);
     format!(

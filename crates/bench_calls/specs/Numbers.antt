@@ -13,4 +13,4 @@ abbrev pub surveyNumbers : Survey.Report → List ℕ
 surveyNumbers r = r .number ∷ r .finding .worst ∷ r .finding .n ∷ r .finding .side ∷ []
 
 abbrev pub lookupNumbers : Lookup.Report → List ℕ
-lookupNumbers r = r .number ∷ r .n ∷ r .j ∷ []
+lookupNumbers r = r .number ∷ r .s ∷ r .n ∷ r .j ∷ []

@@ -67,20 +67,20 @@ pub extern "C" fn quirelinnet_survey(k: u32, m: u32, table: &[u16], out: &mut [u
     }
 }
 
-// out: number, n, j.
+// out: number, s, n, j.
 #[no_mangle]
-pub extern "C" fn quirelinnet_look_up(k: u32, m: u32, x: u32, table: &[u16], out: &mut [u64; 3])
+pub extern "C" fn quirelinnet_look_up(k: u32, m: u32, x: u32, table: &[u16], out: &mut [u64; 4])
     ensures { λ _. ⌜ now (out .exit) ≡ lookupNumbers (lookupReport (shape k m) x (now (table .entry))) ⌝ }
 {
     match look_up(Shape { k: k, m: m }, x, table) {
-        LookupAnswer::Found { n, j } => {
-            *out = [0, n.0 as u64, j.0 as u64];
+        LookupAnswer::Found { s, n, j } => {
+            *out = [0, s.0 as u64, n.0 as u64, j.0 as u64];
         }
         LookupAnswer::TooWide(n) => {
-            *out = [5, n.0 as u64, 0];
+            *out = [5, 0, n.0 as u64, 0];
         }
         LookupAnswer::Refused(r) => {
-            *out = [r.number() as u64, 0, 0];
+            *out = [r.number() as u64, 0, 0, 0];
         }
     }
 }

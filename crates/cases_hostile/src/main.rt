@@ -69,14 +69,20 @@ fn width(state: &mut u64) -> u32 {
     }
 }
 
-// Every other time from 32768 to 65535.
+// From 1 to 65535, with every shift as often as any other.
+fn good_divisor(state: &mut u64) -> u32 {
+    let y = 32768 + small(state, 32768);
+    y >> small(state, 16)
+}
+
+// Every other time a good one.
 fn divisor(state: &mut u64) -> u32 {
     match pick(state, 8) {
         0 => 0,
-        1 => 32767,
-        2 => 65536,
+        1 => 65536,
+        2 => 2147483648,
         3 => 4294967295,
-        _ => 32768 + small(state, 32768),
+        _ => good_divisor(state),
     }
 }
 
@@ -210,19 +216,21 @@ fn fold_check(digest: &mut u64, a: CheckAnswer) {
 
 fn fold_lookup(digest: &mut u64, a: LookupAnswer) {
     match a {
-        LookupAnswer::Found { n, j } => {
+        LookupAnswer::Found { s, n, j } => {
             fold(digest, 0);
+            fold_number(digest, s.0);
             fold_number(digest, n.0);
             fold_number(digest, j.0);
         }
         LookupAnswer::TooWide(n) => {
             fold(digest, 5);
+            fold(digest, 0);
             fold_number(digest, n.0);
             fold(digest, 0);
         }
         LookupAnswer::Refused(r) => {
             fold_number(digest, r.number());
-            fold_zeros(digest, 2);
+            fold_zeros(digest, 3);
         }
     }
 }

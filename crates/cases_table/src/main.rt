@@ -3,16 +3,13 @@
 // them all. The file `stdout` is not this program's output: it is worked out from document 01's
 // definitions, with the best value of each interval found by comparing worst errors.
 ghost use Prim.Native.Nat.{_<_};
-ghost use mathlib.Core.Path.{_≡_};
-ghost use lib.ListN.{length};
 use programs::column;
 use programs::digest_of;
 use programs::long_column;
+use programs::marked;
 use programs::text;
-use table::LookupAnswer;
 use table::build;
 use table::build_bank;
-use table::look_up;
 use table::show_bank;
 use table::show_bank_number;
 use units::Outcome;
@@ -28,14 +25,6 @@ const LENT: [usize; 12] = [0, 1, 2, 1, 2, 3, 32767, 32768, 32769, 32767, 32768, 
 const HEIGHTS: [u32; 6] = [0, 0, 5, 5, 6, 6];
 
 const BANKS: [u32; 6] = [0, 1, 31, 32, 63, 64];
-
-const DIVISORS: [u32; 7] = [0, 32767, 32768, 40960, 65535, 65536, 4294967295];
-
-fn marked() -> [u16; 32769]
-    ensures { λ r. ⌜ 32769 ≡ length r ⌝ }
-{
-    [43981; 32769]
-}
 
 fn changed(cells: &[u16]) -> usize {
     let mut count = 0;
@@ -119,62 +108,6 @@ fn show_case(c: usize)
     show(HEIGHTS[c], BANKS[c], &mut cells);
 }
 
-fn looked_up(a: LookupAnswer) {
-    match a {
-        LookupAnswer::Found { n, j } => {
-            column(0);
-            column(n.0);
-            column(j.0);
-        }
-        LookupAnswer::TooWide(n) => {
-            column(5);
-            column(n.0);
-            column(0);
-        }
-        LookupAnswer::Refused(r) => {
-            column(r.number());
-            column(0);
-            column(0);
-        }
-    }
-}
-
-// "look k m X cells: number n j, number n j", first in a table of 43981s and then in a built one
-fn look(k: u32, m: u32, x: u32, lent: usize) {
-    text(b"look");
-    column(k);
-    column(m);
-    column(x);
-    long_column(lent as u64);
-    text(b":");
-    let shape = Shape::of(k, m);
-    let mut cells = marked();
-    look_in(shape, x, lent, &cells);
-    text(b",");
-    let built: Outcome = build(shape, &mut cells);
-    look_in(shape, x, lent, &cells);
-    text(b"\n");
-}
-
-fn look_in(shape: Shape, x: u32, lent: usize, cells: &[u16]) {
-    if cells.len() < lent {
-        return;
-    }
-    looked_up(look_up(shape, x, &cells[0..lent]));
-}
-
-fn look_case(c: usize)
-    requires { ⌜ c < 7 ⌝ }
-{
-    let x = DIVISORS[c];
-    look(5, 5, x, 31);
-    look(5, 5, x, 32);
-    look(1, 15, x, 2);
-    look(15, 1, x, 32768);
-    look(0, 5, x, 32);
-    look(5, 16, x, 32);
-}
-
 fn builds() {
     for c in 0..48 {
         build_case(c);
@@ -193,15 +126,8 @@ fn shows() {
     }
 }
 
-fn looks() {
-    for c in 0..7 {
-        look_case(c);
-    }
-}
-
 fn main() {
     builds();
     banks();
     shows();
-    looks();
 }

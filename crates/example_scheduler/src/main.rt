@@ -1,6 +1,6 @@
 // What the scheduler of a render farm does with the library: it builds the tables of its cards,
 // checks the images that reach it, and picks the card for a retry. Rattle proves each function here
-// by itself. The file `stdout` is not this program's output: it is worked out from document 01's
+// by itself. The file `stdout` is not this program's output: it is worked out from the documents'
 // definitions.
 ghost use Prim.Native.Nat.{_*_, _≤_};
 ghost use mathlib.Core.Path.{_≡_};
@@ -38,7 +38,7 @@ const WIDE: Card = Card {
     whole: 16384,
 };
 
-// A call that cannot do what was asked says why by a number of document 01, and writes no cell.
+// A call that cannot do what was asked says why by a number of the documents, and writes no cell.
 fn refused(r: Refusal) {
     labelled(b"refused, number ", r.number() as u64);
 }
@@ -146,13 +146,15 @@ fn pick_retry(narrow: SurveyAnswer, wide: SurveyAnswer) {
     }
 }
 
-// 5. What a card starts a division from: the divisor's interval n, and its entry j.
+// 5. What a card starts a division from. A divisor goes in as it comes: it is shifted up by s places,
+// n is the interval that it is then in, and j the entry.
 fn look_up_on(name: &[u8], card: Card, divisor: u32, cells: &[u16]) {
     labelled(b"divisor ", divisor as u64);
     text(name);
     match look_up(card.shape, divisor, cells) {
-        LookupAnswer::Found { n, j } => {
-            labelled(b"n = ", n.0 as u64);
+        LookupAnswer::Found { s, n, j } => {
+            labelled(b"s = ", s.0 as u64);
+            labelled(b", n = ", n.0 as u64);
             labelled(b", j = ", j.0 as u64);
         }
         LookupAnswer::TooWide(n) => too_wide(n),
@@ -174,4 +176,6 @@ fn main() {
     pick_retry(of_narrow, of_wide);
     look_up_on(b" on a narrow card: ", NARROW, 40960, &narrow);
     look_up_on(b" on a wide card: ", WIDE, 40960, &wide);
+    look_up_on(b" on a wide card: ", WIDE, 5, &wide);
+    look_up_on(b" on a wide card: ", WIDE, 0, &wide);
 }

@@ -1,4 +1,4 @@
-// A table's buffer, and the digest by which two programs compare their cells.
+// Buffers, and the digest by which two programs compare their cells.
 ghost use mathlib.Core.Path.{_≡_};
 ghost use lib.ListN.{length, replicate};
 
@@ -8,6 +8,13 @@ pub fn zeroed() -> [u16; 32768]
     ensures size { λ r. ⌜ 32768 ≡ length r ⌝ }
 {
     [0; 32768]
+}
+
+// One cell more than the largest table has, each with a number that is no field of any.
+pub fn marked() -> [u16; 32769]
+    ensures { λ r. ⌜ 32769 ≡ length r ⌝ }
+{
+    [43981; 32769]
 }
 
 // The digest of one value more: 31 times the digest, plus the value, below 2^32.

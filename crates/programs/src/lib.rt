@@ -1,8 +1,9 @@
-// What the programs over the library share: writing, the digest of cells, and a table's buffer.
+// What the programs over the library share: writing, the digest of cells, and buffers.
 mod cells;
 mod writing;
 
 pub use cells::digest_of;
+pub use cells::marked;
 pub use cells::stir;
 pub use cells::stir_cells;
 pub use cells::zeroed;

@@ -1,15 +1,16 @@
-// Reciprocal tables, k bits of a divisor in and m bits of its reciprocal out: every call and type of
-// document 01. Every call takes any numbers and any cells, ends, and answers a refusal number where
-// it cannot do what was asked; a refused call writes nothing.
+// Reciprocal tables, k bits of a divisor in and m bits of its reciprocal out: every call and type of the
+// documents. Every call takes any numbers and any cells, ends, and answers a refusal number where it
+// cannot do what was asked; a refused call writes nothing.
 
-// The kinds of numbers: n of an interval, j of an entry, an error with its sign, and its size; the
-// side of an entry at which its error is larger; and the refusal numbers.
+// The kinds of numbers: n of an interval, j of an entry, an error with its sign, and its size; s of a
+// divisor's shift; the side of an entry at which its error is larger; and the refusal numbers.
 pub use units::Entry;
 pub use units::Error;
 pub use units::Interval;
 pub use units::Outcome;
 pub use units::Refusal;
 pub use units::Shape;
+pub use units::Shift;
 pub use units::Side;
 pub use units::Worst;
 
@@ -42,6 +43,6 @@ pub use survey::whole as survey_table;
 pub use verdict::CheckAnswer;
 pub use verdict::check as check_table;
 
-// Look up: n and j of a divisor.
+// Look up: s, n and j of a divisor.
 pub use table::LookupAnswer;
 pub use table::look_up;

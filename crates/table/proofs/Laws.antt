@@ -8,5 +8,7 @@ pub mod Built
 pub mod AnyOrder
 pub mod Shown
 pub mod Wide
+pub mod Shift
 pub mod Lookup
+pub mod Found
 pub mod Report

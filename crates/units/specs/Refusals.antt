@@ -80,9 +80,9 @@ bankNumber h b = test (leb (2 ^ h) b) (reply 4 0)
 abbrev pub place : ℕ → ℕ → Test
 place k n = test (leb (2 ^ k) n) (reply 4 0)
 
--- 6: "X below 32768 or above 65535"
+-- 6, as document 02 has it: "X is 0 or above 65535"
 abbrev pub divisor : ℕ → Test
-divisor x = test (outside 32768 65535 x) (reply 6 0)
+divisor x = test (outside 1 65535 x) (reply 6 0)
 
 -- the tests of every call that takes both widths begin so
 abbrev pub widthTests : Shape → List Test

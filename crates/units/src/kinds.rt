@@ -16,6 +16,9 @@ pub struct LeftEnd(pub u32);
 // The number j of an entry, which stands for j/2^(m+1).
 pub struct Entry(pub u32);
 
+// The number s of places by which a divisor X is shifted to X·2^s.
+pub struct Shift(pub u32);
+
 // An error at one end of an interval, in parts of 2^(k+m+1). It has a sign.
 pub struct Error(pub i64);
 

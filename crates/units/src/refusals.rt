@@ -19,7 +19,7 @@ pub enum Refusal {
     FewCells,
     // 4: h, b or n is not a place of the table.
     Place,
-    // 6: X is not from 32768 to 65535.
+    // 6: X is not from 1 to 65535.
     Divisor,
     // 7: the listing's input line has another form.
     Line,
@@ -164,11 +164,11 @@ pub fn interval_place(k: u32, n: Interval) -> Outcome
     refused_past(k, n.0 as u64, Refusal::Place)
 }
 
-// 6: "X below 32768 or above 65535".
+// 6, as document 02 has it: "X is 0 or above 65535".
 pub fn divisor_range(x: u32) -> Outcome
     ensures { λ r. ⌜ replyOf r ≡ refusal (divisor x ∷ []) ⌝ }
 {
-    refused_if(is_outside(32768, 65535, x), Refusal::Divisor)
+    refused_if(is_outside(1, 65535, x), Refusal::Divisor)
 }
 
 // 1 and 2, with which every call that takes both widths begins.

@@ -7,10 +7,12 @@ use Rattle.bench_calls.proofs.quirelinnet_look_up.Statement.{statement}
 use Rattle.bench_calls.proofs.quirelinnet_look_up.Tie as tie
 
 returns : tie.Need-returns
-returns c = numbers-told reported lookupNumbers (c .before .before .before .before .n .given .1) (c .before .before .before .before .before .before .look-up .ensures)
+returns c =
+    let found = c .before .before .before .before .before in
+    numbers-told reported lookupNumbers (found .s .given .1) (found .before .before .look-up .ensures)
 
 returns-2 : tie.Need-returns-2
-returns-2 c = numbers-told reported lookupNumbers (c .before .before .before .n2 .given .1) (c .before .before .before .before .before .look-up .ensures)
+returns-2 c = numbers-told reported lookupNumbers (c .before .before .before .n .given .1) (c .before .before .before .before .before .look-up .ensures)
 
 returns-3 : tie.Need-returns-3
 returns-3 c = rw (c .before .number .ensures) (numbers-told reported lookupNumbers (c .before .before .before .r .given .1) (c .before .before .before .before .before .look-up .ensures))
@@ -20,6 +22,7 @@ quirelinnet-look-up-spec =
     tie.close
     (tie.spec
     (λ c κs. search needs)
+    (λ c. search needs)
     (λ c. search needs)
     (λ c. search needs)
     (λ c. search needs)

@@ -1,9 +1,13 @@
--- What document 01 says of the calls beyond the order's demands. Assumes nothing.
+-- What documents 01 and 02 say of the calls beyond the order's demands. Assumes nothing.
 --     banks-in-any-order                   "All banks of one h, built in any order, give the whole table."
 --     bank-built-keeps-before, bank-built-keeps-after    "The call fills only that bank's cells"
 --     length-built, length-bank-built      a builder leaves as many cells as it was lent
 --     shown-whole, empty-is-refused, refused-is-empty    "A shown bank is never empty; an empty stretch means refusal"
---     look-up-contains                     the n that Look up gives, with 0 and with 5, is that of the interval that has the divisor
+--     look-up-contains                     the n that Look up gives, with 0 and with 5, is that of the interval that has X·2^s/32768
+--     shift-reaches, shift-stays, no-smaller-shift, shift-is-one    "shift it left by the least s that brings it to 32768 or more": it
+--                                          stays below 65536, no smaller s does it, and no other s has these two bounds
+--     found-error-within                   of every divisor looked up, the error of the j found lies between that entry's low and high,
+--                                          so within its worst error
 --     lookup-by-one-cell                   Look up reads one cell
 --     survey-reports-largest, largest-is-one    "the largest worst error, the smallest n that has it"
 --     survey-is-tallied, bank-is-tallied   a tally of every field of a table, or of a bank, has its survey
@@ -23,8 +27,10 @@ pub use Rattle.entry.proofs.Laws.Everywhere.{error-above-low, error-at-most-hig
 pub use Rattle.entry.proofs.Laws.Nearest.{nearest-is-nearest}
 pub use Rattle.table.proofs.Laws.AnyOrder.{banks-in-any-order}
 pub use Rattle.table.proofs.Laws.Built.{length-built, bank-built-keeps-before, bank-built-keeps-after, length-bank-built}
+pub use Rattle.table.proofs.Laws.Found.{WithinErrors, found-error-within}
 pub use Rattle.table.proofs.Laws.Lookup.{look-up-contains, lookup-by-one-cell}
 pub use Rattle.table.proofs.Laws.Past.{build-number-past-table, built-past-table, build-bank-number-past-table, bank-built-past-table, show-bank-number-past-table, shown-past-table}
+pub use Rattle.table.proofs.Laws.Shift.{shift-reaches, shift-stays, no-smaller-shift, shift-is-one}
 pub use Rattle.table.proofs.Laws.Shown.{shown-whole, empty-is-refused, refused-is-empty}
 pub use Rattle.table.proofs.Laws.Wide.{first-wide-is-smallest}
 pub use Rattle.survey.proofs.Laws.Largest.{largest-is-one}

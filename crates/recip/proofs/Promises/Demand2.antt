@@ -17,9 +17,9 @@ use Rattle.units.specs.Refusals.{Reply, reply, Test, answer, refusal}
 use Rattle.units.specs.Inner.Good.{GoodTable}
 use Rattle.units.specs.declared.shapes.Shape.{Shape}
 use Rattle.units.proofs.Laws.Tests.{Passed, Numbered, all-passed, done-by, answer-number}
-use Rattle.entry.specs.Errors.{unit, iOf, jOf, worst}
+use Rattle.entry.specs.Errors.{unit, iOf, jOf}
 use Rattle.entry.specs.Everywhere.{_over_, Bounds}
-use Rattle.entry.specs.Fields.{cap, tooWide}
+use Rattle.entry.specs.Fields.{cap}
 use Rattle.entry.specs.Least.{isBest}
 use Rattle.entry.specs.Report as error-specs
 use Rattle.entry.proofs.Laws.Everywhere.{better-entry-bounded}
@@ -27,6 +27,7 @@ use Rattle.entry.proofs.Laws.Least.{least-below}
 use Rattle.entry.proofs.Laws.Table.{unit-splits}
 use Rattle.table.specs.Build.{built}
 use Rattle.table.specs.Lookup as lookup-specs
+use Rattle.table.specs.Shift.{shifted}
 use Rattle.table.specs.Wide.{wideAmong, fieldTests}
 use Rattle.survey.specs.Survey as survey-specs
 use Rattle.survey.specs.Tally as tally-specs
@@ -91,12 +92,9 @@ check-number s cells =
 
 pub look-up-number : (s : Shape) (x : ℕ) (cells : List ℕ)
     → lookup-specs.lookupReport s x cells .number
-    ≡ refusal
-    (lookup-specs.divisorTests s x (length cells)
-    ++ (tooWide s (lookup-specs.indexOf s x) (getD cells (lookup-specs.indexOf s x) 0) ∷ []))
-    .number
+    ≡ refusal (lookup-specs.lookupTests s x cells (lookup-specs.indexOf s (shifted x))) .number
 look-up-number s x cells =
     answer-number (λ (r : lookup-specs.Report). r .number) lookup-specs.refused _
-    (lookup-specs.divisorTests s x (length cells) ++ (tooWide s (lookup-specs.indexOf s x) (getD cells (lookup-specs.indexOf s x) 0) ∷ []))
+    (lookup-specs.lookupTests s x cells (lookup-specs.indexOf s (shifted x)))
     (λ b. refl)
     refl

@@ -13,6 +13,7 @@ use Rattle.entry.specs.Rule.{nearest, rule, ruleValue, ruleField}
 use Rattle.table.specs.Banks.{bankSize, viewTests, shown}
 use Rattle.table.specs.Build.{rows}
 use Rattle.table.specs.Lookup.{lookedUp, refused, lookupReport}
+use Rattle.table.specs.Shift.{leastFrom, shiftOf}
 use Rattle.table.specs.Wide.{anyWide, firstWide}
 use Rattle.survey.specs.Finding.{findingOver}
 use Rattle.survey.specs.Survey.{surveyed, surveyReport}
@@ -66,11 +67,13 @@ pub record TwelveExamples : Type 0 where
   pub tenth : (ruleValue (shape 10 10) 36 ≡ 1978)
       × (low (unit (shape 10 10)) (iOf (shape 10 10) 36) 1978 ≡ negsuc 1505)
       × (high (unit (shape 10 10)) (iOf (shape 10 10) 36) 1978 ≡ pos 472)
-  -- 11. (5,5), X = 40960 gives n = 8, j = 51; 65535 gives n = 31, j = 32; 32767 and 65536 are refused with 6
-  pub eleventh : (lookupReport (shape 5 5) 40960 (fields (shape 5 5)) ≡ lookedUp 8 51)
-      × (lookupReport (shape 5 5) 65535 (fields (shape 5 5)) ≡ lookedUp 31 32)
-      × (lookupReport (shape 5 5) 32767 (fields (shape 5 5)) ≡ refused (reply 6 0))
+  -- 11, as document 02 has it. (5,5), X = 40960 gives s = 0, n = 8, j = 51; 65535 gives s = 0, n = 31, j = 32; 32767 gives s = 1, n = 31,
+  -- j = 32; 65536 and 0 are refused with 6
+  pub eleventh : (lookupReport (shape 5 5) 40960 (fields (shape 5 5)) ≡ lookedUp 0 8 51)
+      × (lookupReport (shape 5 5) 65535 (fields (shape 5 5)) ≡ lookedUp 0 31 32)
+      × (lookupReport (shape 5 5) 32767 (fields (shape 5 5)) ≡ lookedUp 1 31 32)
       × (lookupReport (shape 5 5) 65536 (fields (shape 5 5)) ≡ refused (reply 6 0))
+      × (lookupReport (shape 5 5) 0 (fields (shape 5 5)) ≡ refused (reply 6 0))
   -- 12. k = 5, h = 2, b = 3: entries 24 to 31. b = 4 and h = 6 are refused with 4; h = 5, b = 31 is one entry
   pub twelfth : (shown 5 2 3 (numbered 32) ≡ 24 ∷ 25 ∷ 26 ∷ 27 ∷ 28 ∷ 29 ∷ 30 ∷ 31 ∷ [])
       × (refusal (viewTests 5 2 4 32) ≡ reply 4 0)
@@ -79,7 +82,7 @@ pub record TwelveExamples : Type 0 where
       × (bankSize 5 5 ≡ 1)
 
 pub twelve-examples : TwelveExamples
-unfolding rows rule nearest fieldsEnd isWide cap low high worst side least leastOf answer outside anyWide firstWide findingOver firstFailing
+unfolding rows rule nearest fieldsEnd isWide cap low high worst side least leastOf answer outside leastFrom shiftOf anyWide firstWide findingOver firstFailing
 twelve-examples =
     record {
       first = refl;
@@ -92,6 +95,6 @@ twelve-examples =
       eighth = (refl, refl, refl, refl);
       ninth = (refl, refl, refl, refl);
       tenth = (refl, refl, refl);
-      eleventh = (refl, refl, refl, refl);
+      eleventh = (refl, refl, refl, refl, refl);
       twelfth = (refl, refl, refl, refl, refl);
     }

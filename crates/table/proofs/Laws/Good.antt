@@ -2,7 +2,6 @@
 use Prim.Native.Nat.{ℕ, _^_, _≤_}
 use mathlib.Core.Path.{_≡_}
 use mathlib.Core.List.{List, [], _∷_}
-use native.Mathlib.Omega.{arith}
 use borrow.Author.Tests.{ltb-false, leb-false, le-ltb, lt-leb}
 use lib.ListN.{length, take}
 use lib.Seq.{length-take-le}
@@ -70,10 +69,9 @@ module _ {s : Shape} {x lent : ℕ} where
   pub lookup-good : Passed (divisorTests s x lent) → GoodLookup s x lent
   lookup-good p =
       let parts = passed-parts (tableTests s lent) (divisor x ∷ []) p in
-      let range = not-outside 32768 65535 x (parts .1 .0) in
-      record { table = table-good (parts .0); from = range .0; to = omega (arith, range .1) }
+      let range = not-outside 1 65535 x (parts .1 .0) in
+      record { table = table-good (parts .0); some = range .0; to = range .1 }
 
   pub good-lookup : GoodLookup s x lent → Passed (divisorTests s x lent)
   good-lookup g =
-      passed-also (tableTests s lent) (divisor x ∷ []) (good-table (g .table))
-      (within 32768 65535 x (g .from) (omega (arith, g .to)), tt)
+      passed-also (tableTests s lent) (divisor x ∷ []) (good-table (g .table)) (within 1 65535 x (g .some) (g .to), tt)

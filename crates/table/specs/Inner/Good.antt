@@ -33,5 +33,5 @@ pub record GoodFields (s : Shape) (cells : List ℕ) : Type 0 where
 -- 1, 2, 3, 6: Look up
 pub record GoodLookup (s : Shape) (x lent : ℕ) : Type 0 where
   pub table : GoodTable s lent
-  pub from : 2 ^ 15 ≤ x
-  pub to : x < 2 ^ 16
+  pub some : 1 ≤ x
+  pub to : x ≤ 65535
