@@ -3,6 +3,7 @@
 use Prim.Native.Nat.{ℕ, _+_, _*_, _≤_, _<_}
 use lib.IntN.{ℤ, pos, _-ℤ_, _*ℤ_, natAbs}
 use lib.Signed.{_≤ℤ_, _<ℤ_}
+use Rattle.entry.specs.Errors.{low, high, worst}
 
 -- a fraction, which may be below zero: a over b is a/b, where b is above 0
 infix 40 _over_
@@ -32,3 +33,9 @@ errorAt M j p q = (pos (q * M) -ℤ pos (p * j)) over (q * M)
 -- a bound of the size of the error of j at every x of the interval
 abbrev pub Bounds : ℕ → ℕ → ℕ → ℕ → Fraction → Type 0
 Bounds K M i j bound = (p q : ℕ) → Holds K i p q → AtMost (size (errorAt M j p q)) bound
+
+-- an error of j in the interval, in parts of u, which is K·M, is above low and at most high, so within the worst error
+pub record WithinErrors (u i j : ℕ) (error : Fraction) : Type 0 where
+  pub above-low : Below (low u i j over u) error
+  pub at-most-high : AtMost error (high u i j over u)
+  pub within-worst : AtMost (size error) (pos (worst u i j) over u)

@@ -9,7 +9,7 @@ use native.Mathlib.Omega.{arith}
 use lib.IntN.{ℤ, pos, negsuc, _-ℤ_, natAbs}
 use Rattle.units.proofs.Laws.Order.{by-order}
 use Rattle.entry.specs.Errors.{high, low, worst}
-use Rattle.entry.specs.Everywhere.{_over_, Below, AtMost, size, Holds, errorAt, Bounds}
+use Rattle.entry.specs.Everywhere.{_over_, Below, AtMost, size, Holds, errorAt, Bounds, WithinErrors}
 use Rattle.entry.proofs.Laws.Worst.{dist, size-of-difference, worst-by-ends, within-worst}
 use Rattle.entry.proofs.Laws.Differences.{IsDifference, above, under, difference, times, at-most, from-at-most, whole-at-most, at-most-whole, products-at-most, products-below}
 
@@ -144,6 +144,15 @@ module _ (K M u i j : ℕ) (unit : u ≡ K * M) (k-pos : 0 < K) where
   -- The size of the error is at most the worst error at every x
   pub worst-bounds-error : Bounds K M i j (pos (worst u i j) over u)
   worst-bounds-error = bounds-every-x (worst u i j) u (le-refl (worst u i j * u))
+
+  -- and all of this of one x
+  pub every-x-within : (p q : ℕ) → 0 < M → 0 < j → Holds K i p q → WithinErrors u i j (errorAt M j p q)
+  every-x-within p q m-pos j-pos x =
+      record {
+        above-low = error-above-low m-pos j-pos x;
+        at-most-high = error-at-most-high x;
+        within-worst = worst-bounds-error p q x;
+      }
 
 -- Where the worst error of j', as a fraction, is no larger than that of j, what bounds the error of j bounds that of j': over
 -- an interval of another table, and over the same interval

@@ -27,7 +27,7 @@ pub use Rattle.entry.proofs.Laws.Everywhere.{error-above-low, error-at-most-hig
 pub use Rattle.entry.proofs.Laws.Nearest.{nearest-is-nearest}
 pub use Rattle.table.proofs.Laws.AnyOrder.{banks-in-any-order}
 pub use Rattle.table.proofs.Laws.Built.{length-built, bank-built-keeps-before, bank-built-keeps-after, length-bank-built}
-pub use Rattle.table.proofs.Laws.Found.{WithinErrors, found-error-within}
+pub use Rattle.table.proofs.Laws.Found.{found-error-within}
 pub use Rattle.table.proofs.Laws.Lookup.{look-up-contains, lookup-by-one-cell}
 pub use Rattle.table.proofs.Laws.Past.{build-number-past-table, built-past-table, build-bank-number-past-table, bank-built-past-table, show-bank-number-past-table, shown-past-table}
 pub use Rattle.table.proofs.Laws.Shift.{shift-reaches, shift-stays, no-smaller-shift, shift-is-one}

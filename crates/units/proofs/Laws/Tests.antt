@@ -166,6 +166,14 @@ all-passed (t ∷ ts) p e =
     let first = first-passed (t .holds) (t .gives) (refusal ts) (p .0) e in
     (first .0, all-passed ts (p .1) (first .1))
 
+-- and so does that of an answer whose cases give their numbers
+pub zero-passed : {A : Type 0} (number : A → ℕ) (refuse : Reply → A) (done : A) (ts : List Test) → Numbered ts
+    → ((b : Reply) → number (refuse b) ≡ b .number)
+    → number done ≡ 0
+    → number (answer refuse done ts) ≡ 0
+    → Passed ts
+zero-passed number refuse done ts p gives zero e = all-passed ts p (sym (answer-number number refuse done ts gives zero) ∙ e)
+
 -- what the code knows after a function has made some tests. They refused, so the call's answer is their number
 pub refused-so : {A : Type 0} (refuse : Reply → A) (done : A) (ts rest : List Test) {o : Outcome} (r : Refusal) → o ≡ Refused r → replyOf o ≡ refusal ts
     → refuse (reply (refusalNumber r) 0) ≡ answer refuse done (ts ++ rest)
