@@ -1,5 +1,4 @@
 pub mod Scan
-pub mod Good
 pub mod Shown
 pub mod Largest
 pub mod Join

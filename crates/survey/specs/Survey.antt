@@ -2,9 +2,9 @@
 use Prim.Native.Nat.{ℕ, _+_, _^_}
 use mathlib.Core.List.{List, [], _∷_, _++_}
 use lib.ListN.{length, take}
-use Rattle.units.specs.Refusals.{Reply, reply, Test, answer, refusalNumber, widthTests, tableTests, fewCells}
+use Rattle.units.specs.Refusals.{Reply, reply, Test, answer, refusalNumber, tableTests, fewCells}
 use Rattle.units.specs.declared.shapes.Shape.{Shape}
-use Rattle.table.specs.Banks.{bankSize, bankStart, bankOf, bankName}
+use Rattle.table.specs.Banks.{bankSize, bankStart, bankOf, namedTests}
 use Rattle.table.specs.Wide.{wideAmong}
 use Rattle.survey.specs.Finding.{Figures, fresh, findingOver}
 use Rattle.survey.specs.Tally.{figuresOf}
@@ -36,10 +36,6 @@ surveyAfter tests s n fields = answer refused (surveyed (findingOver s n fields 
 -- "Survey reads any table": 1, 2, 3, 5
 abbrev pub surveyReport : Shape → List ℕ → Report
 surveyReport s cells = surveyAfter (tableTests s (length cells)) s 0 (take (2 ^ s .k) cells)
-
--- 1, 2, 4 for h, then b
-abbrev pub namedTests : Shape → ℕ → ℕ → List Test
-namedTests s h b = widthTests s ++ bankName (s .k) h b
 
 -- "A bank can be surveyed by itself, given its number; it then answers with n counted in the whole table": given its own cells; 3 is
 -- "fewer than 2^(k-h) in the bank"

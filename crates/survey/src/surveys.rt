@@ -1,16 +1,17 @@
 // The calls "Survey" and the bank surveys of document 01.
 ghost use mathlib.Core.Path.{_≡_};
+ghost use mathlib.Core.Bool.{cond};
 ghost use mathlib.Core.List.{[], _∷_};
 ghost use Prim.Native.Nat.{_+_, _-_, _≤_, _^_};
 ghost use lib.ListN.{length, take, drop};
 ghost use Rattle.units.specs.Inner.Good.{GoodWidths};
-ghost use Rattle.units.specs.Refusals.{replyOf, refusal, fewCells};
-ghost use Rattle.survey.specs.Survey.{reported, surveyAfter, namedTests, surveyReport, bankReport, bankOfReport};
+ghost use Rattle.units.specs.Refusals.{fewCells};
+ghost use Rattle.survey.specs.Survey.{reported, surveyAfter, surveyReport, bankReport, bankOfReport};
 use crate::tallies::Finding;
 use crate::tallies::Tally;
 use entry::is_wide;
-use table::bank_at;
-use table::bank_named;
+use table::BankAnswer;
+use table::named_bank;
 use units::Interval;
 use units::Outcome;
 use units::Refusal;
@@ -69,11 +70,21 @@ pub fn whole(shape: Shape, table: &[u16]) -> SurveyAnswer
     }
 }
 
-// The tests 1, 2, and 4 for h and b.
-fn named_bank(shape: Shape, h: u32, b: u32) -> Outcome
-    ensures { λ r. ⌜ replyOf r ≡ refusal (namedTests shape h b) ⌝ }
+// Both bank surveys: of cells that are the bank's own, or those of the table that it lies in.
+fn survey_bank(shape: Shape, h: u32, b: u32, cells: &[u16], in_table: bool) -> SurveyAnswer
+    ensures { λ r. ⌜ reported r ≡ cond in_table (bankOfReport shape h b (now (cells .entry))) (bankReport shape h b (now (cells .entry))) ⌝ }
 {
-    widths(shape).then(bank_named(shape.k, h, b))
+    match named_bank(shape, h, b) {
+        BankAnswer::Refused(r) => SurveyAnswer::Refused(r),
+        BankAnswer::At(place) => {
+            let first = place.first;
+            let end = place.end;
+            if in_table {
+                return survey_part(shape, first as u32, cells, first, end);
+            }
+            survey_part(shape, first as u32, cells, 0, end - first)
+        }
+    }
 }
 
 // "A bank can be surveyed by itself, given its number; it then answers with n counted in the whole
@@ -81,26 +92,12 @@ fn named_bank(shape: Shape, h: u32, b: u32) -> Outcome
 pub fn bank(shape: Shape, h: u32, b: u32, cells: &[u16]) -> SurveyAnswer
     ensures { λ r. ⌜ reported r ≡ bankReport shape h b (now (cells .entry)) ⌝ }
 {
-    match named_bank(shape, h, b) {
-        Outcome::Refused(r) => SurveyAnswer::Refused(r),
-        Outcome::Done => {
-            let place = bank_at(shape.k, h, b);
-            let first = place.first;
-            survey_part(shape, first as u32, cells, 0, place.end - first)
-        }
-    }
+    survey_bank(shape, h, b, cells, false)
 }
 
 // The same, lent the table: the part from b·2^(k-h) on.
 pub fn bank_of(shape: Shape, h: u32, b: u32, table: &[u16]) -> SurveyAnswer
     ensures { λ r. ⌜ reported r ≡ bankOfReport shape h b (now (table .entry)) ⌝ }
 {
-    match named_bank(shape, h, b) {
-        Outcome::Refused(r) => SurveyAnswer::Refused(r),
-        Outcome::Done => {
-            let place = bank_at(shape.k, h, b);
-            let first = place.first;
-            survey_part(shape, first as u32, table, first, place.end)
-        }
-    }
+    survey_bank(shape, h, b, table, true)
 }

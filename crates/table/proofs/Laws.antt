@@ -2,6 +2,7 @@ pub mod Rows
 pub mod Filling
 pub mod Banks
 pub mod Good
+pub mod Located
 pub mod Whole
 pub mod Past
 pub mod Built

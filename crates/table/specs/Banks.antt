@@ -2,7 +2,8 @@
 use Prim.Native.Nat.{ℕ, _-_, _*_, _^_}
 use mathlib.Core.List.{List, [], _∷_, _++_}
 use lib.ListN.{length, take, drop}
-use Rattle.units.specs.Refusals.{Reply, Test, answer, inputWidth, bankHeight, bankNumber, fewCells}
+use Rattle.units.specs.Refusals.{Reply, Test, answer, inputWidth, widthTests, bankHeight, bankNumber, fewCells}
+use Rattle.units.specs.declared.shapes.Shape.{Shape}
 
 -- "bank b (0 to 2^h - 1) is the 2^(k-h) entries from b·2^(k-h) on"
 abbrev pub bankSize : ℕ → ℕ → ℕ
@@ -21,6 +22,10 @@ bankName k h b = bankHeight k h ∷ bankNumber h b ∷ []
 -- and after them 3
 abbrev pub bankPlace : ℕ → ℕ → ℕ → ℕ → List Test
 bankPlace k h b lent = bankName k h b ++ (fewCells lent (2 ^ k) ∷ [])
+
+-- 1, 2, 4 for h, then b: a bank by its number
+abbrev pub namedTests : Shape → ℕ → ℕ → List Test
+namedTests s h b = widthTests s ++ bankName (s .k) h b
 
 -- "Show a bank .. takes k, h, b and the table": 1, 4 for h and b, 3
 abbrev pub viewTests : ℕ → ℕ → ℕ → ℕ → List Test

@@ -1,1 +1,2 @@
 pub mod Good
+pub mod Located

@@ -4,8 +4,9 @@ mod builders;
 mod lookups;
 mod views;
 
-pub use banks::bank_at;
-pub use banks::bank_named;
+pub use banks::BankAnswer;
+pub use banks::Stretch;
+pub use banks::named_bank;
 pub use builders::build;
 pub use builders::build_bank;
 pub use lookups::LookupAnswer;

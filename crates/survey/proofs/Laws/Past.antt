@@ -7,9 +7,9 @@ use lib.ListN.{length}
 use lib.Seq.{take-append-le}
 use Rattle.units.specs.Refusals.{Test, widthTests, test, reply}
 use Rattle.units.specs.declared.shapes.Shape.{Shape}
-use Rattle.table.specs.Banks.{bankSize, bankStart}
+use Rattle.table.specs.Banks.{bankSize, bankStart, namedTests}
 use Rattle.table.proofs.Laws.Past.{enough-still, part-still}
-use Rattle.survey.specs.Survey.{surveyAfter, namedTests, surveyReport, bankReport, bankOfReport}
+use Rattle.survey.specs.Survey.{surveyAfter, surveyReport, bankReport, bankOfReport}
 
 -- a survey sees only whether the cells are enough, and the fields
 same-survey : (tests : List Test) (s : Shape) (n : ℕ) {short short' : Bool} {fields fields' : List ℕ} → short ≡ short' → fields ≡ fields'

@@ -1,24 +1,24 @@
 -- The answers can be read back from their numbers, so no two answers of a call have the same; and which of their values are zero.
 -- Assumes nothing.
+use Prim.Native.Nat.{ℕ, _+_, _<_, _^_}
 use mathlib.Core.Path.{_≡_, refl, ap}
+use mathlib.Core.List.{List, [], _∷_, _++_}
+use native.Mathlib.Omega.{arith}
+use lib.ListN.{length, take}
 use Rattle.units.specs.declared.kinds.Side.{Side}
+use Rattle.units.specs.Refusals.{Test, fewCells, tableTests}
+use Rattle.units.specs.declared.shapes.Shape.{Shape}
 use Rattle.units.proofs.Laws.OneToOne.{one-to-one, sideOf, side-reads, byNumber, refused-reads}
+use Rattle.units.proofs.Laws.Tests.{Each, answer-has}
+use Rattle.table.specs.Banks.{bankSize, bankStart, bankOf, namedTests}
+use Rattle.table.specs.Wide.{wideAmong}
+use Rattle.table.proofs.Laws.Wide.{SmallestWide, five-names-smallest}
 use Rattle.survey.specs.Finding.{Figures}
-use Rattle.survey.specs.Survey.{Report, refused, reported, surveyAfter, surveyReport, namedTests, bankReport, bankOfReport}
+use Rattle.survey.specs.Survey.{Report, refused, reported, surveyAfter, surveyReport, bankReport, bankOfReport}
 use Rattle.survey.specs.Tally.{figuresOf}
 use Rattle.survey.specs.declared.tallies.Finding.{Finding}
 use Rattle.survey.specs.declared.surveys.SurveyAnswer.{SurveyAnswer}
 use Rattle.survey.specs.declared.surveys.SurveyAnswer.the-variants.{Surveyed, TooWide, Refused}
-use Prim.Native.Nat.{ℕ, _+_, _<_, _^_}
-use mathlib.Core.List.{List, [], _∷_, _++_}
-use native.Mathlib.Omega.{arith}
-use lib.ListN.{length, take}
-use Rattle.units.specs.Refusals.{Test, fewCells, tableTests}
-use Rattle.units.specs.declared.shapes.Shape.{Shape}
-use Rattle.units.proofs.Laws.Tests.{Each, answer-has}
-use Rattle.table.specs.Banks.{bankSize, bankStart, bankOf}
-use Rattle.table.specs.Wide.{wideAmong}
-use Rattle.table.proofs.Laws.Wide.{SmallestWide, five-names-smallest}
 
 pub findingBack : Figures → Finding
 findingBack f = record { worst = record { 0 = f .worst }; n = record { 0 = f .n }; side = sideOf (f .side) }

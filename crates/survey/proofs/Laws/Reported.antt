@@ -13,18 +13,17 @@ use Rattle.units.specs.declared.shapes.Shape.{Shape}
 use Rattle.units.proofs.Laws.Good.{good-table}
 use Rattle.units.proofs.Laws.Tests.{Passed, passed-also, done-by}
 use Rattle.entry.specs.Fields.{isWide}
-use Rattle.table.specs.Banks.{bankSize, bankStart, bankOf}
+use Rattle.table.specs.Banks.{bankSize, bankStart, bankOf, namedTests}
 use Rattle.table.specs.Inner.Good.{GoodBank, GoodFields}
 use Rattle.table.specs.Wide.{anyWide, wideAmong}
 use Rattle.table.proofs.Laws.Banks.{bank-within}
-use Rattle.table.proofs.Laws.Good.{good-fields, table-size}
+use Rattle.table.proofs.Laws.Good.{good-fields, good-named, table-size}
 use Rattle.table.proofs.Laws.Shown.{bank-whole}
 use Rattle.table.proofs.Laws.Wide.{all-narrow, each-narrow}
 use Rattle.survey.specs.Finding.{Figures, fresh, findingOver}
-use Rattle.survey.specs.Survey.{Report, refused, surveyed, surveyAfter, surveyReport, namedTests, bankOfReport}
-use Rattle.survey.proofs.Laws.Good.{good-named}
-use Rattle.survey.proofs.Laws.Join.{LargestBank, bankFigures, banks-give-whole, whole-is-largest-bank}
+use Rattle.survey.specs.Survey.{Report, refused, surveyed, surveyAfter, surveyReport, bankOfReport}
 use Rattle.survey.specs.Tally.{started, talliedAll}
+use Rattle.survey.proofs.Laws.Join.{LargestBank, bankFigures, banks-give-whole, whole-is-largest-bank}
 use Rattle.survey.proofs.Laws.Largest.{Largest, survey-is-largest}
 use Rattle.survey.proofs.Laws.Tallied.{tally-is-survey}
 

@@ -10,11 +10,11 @@ use lib.ListN.{length, drop}
 use lib.Seq.{take-take}
 use Rattle.units.specs.Refusals.{test, reply}
 use Rattle.units.specs.declared.shapes.Shape.{Shape}
-use Rattle.table.specs.Banks.{bankSize, bankStart, bankOf, shown}
+use Rattle.table.specs.Banks.{bankSize, bankStart, bankOf, namedTests, shown}
 use Rattle.table.specs.Inner.Good.{GoodView}
 use Rattle.table.proofs.Laws.Banks.{bank-within}
 use Rattle.table.proofs.Laws.Shown.{shown-is, bank-whole}
-use Rattle.survey.specs.Survey.{surveyAfter, namedTests, bankReport, bankOfReport}
+use Rattle.survey.specs.Survey.{surveyAfter, bankReport, bankOfReport}
 
 pub bank-of-shown : (s : Shape) (h b : ℕ) (table : List ℕ) → GoodView (s .k) h b (length table)
     → bankReport s h b (shown (s .k) h b table) ≡ bankOfReport s h b table

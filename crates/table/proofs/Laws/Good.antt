@@ -10,9 +10,9 @@ use Rattle.units.specs.Inner.Good.{GoodTable}
 use Rattle.units.specs.declared.shapes.Shape.{Shape}
 use Rattle.units.proofs.Laws.Good.{widths-good, good-widths, table-good, good-table}
 use Rattle.units.proofs.Laws.Tests.{Passed, passed-parts, passed-also, not-outside, within}
-use Rattle.table.specs.Banks.{bankName, bankPlace, viewTests}
+use Rattle.table.specs.Banks.{bankName, bankPlace, namedTests, viewTests}
 use Rattle.table.specs.Build.{bankTests}
-use Rattle.table.specs.Inner.Good.{GoodBank, GoodView, GoodBuild, GoodFields, GoodLookup}
+use Rattle.table.specs.Inner.Good.{GoodBank, GoodNamed, GoodView, GoodBuild, GoodFields, GoodLookup}
 use Rattle.table.specs.Lookup.{divisorTests}
 use Rattle.table.specs.Wide.{wideAmong, fieldTests}
 
@@ -40,6 +40,16 @@ module _ {k h b : ℕ} where
 
     pub good-view : GoodView k h b lent → Passed (viewTests k h b lent)
     good-view g = (within 1 15 k (g .bank .some) (g .bank .narrow), good-bank-place g)
+
+module _ {s : Shape} {h b : ℕ} where
+  pub named-good : Passed (namedTests s h b) → GoodNamed s h b
+  named-good p =
+      let parts = passed-parts (widthTests s) (bankName (s .k) h b) p in
+      let widths = widths-good (parts .0) in
+      record { widths = widths; bank = bank-good (widths .some-in) (widths .narrow-in) (parts .1) }
+
+  pub good-named : GoodNamed s h b → Passed (namedTests s h b)
+  good-named g = passed-also (widthTests s) (bankName (s .k) h b) (good-widths (g .widths)) (good-bank (g .bank))
 
 module _ {s : Shape} {h b lent : ℕ} where
   pub build-good : Passed (bankTests s h b lent) → GoodBuild s h b lent

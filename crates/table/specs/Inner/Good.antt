@@ -15,7 +15,12 @@ pub record GoodBank (k h b : ℕ) : Type 0 where
   pub low : h ≤ k
   pub number : b < 2 ^ h
 
--- and 3: Show a bank
+-- and 2: the bank surveys, before they look at cells
+pub record GoodNamed (s : Shape) (h b : ℕ) : Type 0 where
+  pub widths : GoodWidths s
+  pub bank : GoodBank (s .k) h b
+
+-- 1, 4 for h and b, and 3: Show a bank
 pub record GoodView (k h b lent : ℕ) : Type 0 where
   pub bank : GoodBank k h b
   pub enough : 2 ^ k ≤ lent

@@ -1,20 +1,20 @@
 -- The answer of `check` can be read back from its numbers and its yes, so no two answers have the same; and which of
 -- its values are zero. Assumes nothing.
+use Prim.Native.Nat.{ℕ, suc, _<_, _^_}
 use mathlib.Core.Bool.{Bool, true, false, cond, false≢true}
 use mathlib.Core.Path.{_≡_, refl}
-use Rattle.units.proofs.Laws.OneToOne.{one-to-one, byNumber, refused-reads}
-use Rattle.verdict.specs.Check.{Report, refused, notBest, reported, firstFailing, checkReport}
-use Rattle.verdict.specs.declared.CheckAnswer.{CheckAnswer}
-use Rattle.verdict.specs.declared.CheckAnswer.the-variants.{Yes, NotBest, TooWide, Refused}
-use Prim.Native.Nat.{ℕ, suc, _<_, _^_}
 use mathlib.Core.List.{List, [], _∷_}
 use native.Mathlib.Omega.{arith}
 use lib.ListN.{take}
 use Rattle.units.specs.declared.shapes.Shape.{Shape}
+use Rattle.units.proofs.Laws.OneToOne.{one-to-one, byNumber, refused-reads}
 use Rattle.units.proofs.Laws.Tests.{answer-has}
 use Rattle.entry.specs.Errors.{unit, iOf, jOf, worst}
 use Rattle.entry.specs.Least.{leastWorst, isBest}
 use Rattle.table.specs.Wide.{fieldTests}
+use Rattle.verdict.specs.Check.{Report, refused, notBest, reported, firstFailing, checkReport}
+use Rattle.verdict.specs.declared.CheckAnswer.{CheckAnswer}
+use Rattle.verdict.specs.declared.CheckAnswer.the-variants.{Yes, NotBest, TooWide, Refused}
 
 answerOf : Report → CheckAnswer
 answerOf r =

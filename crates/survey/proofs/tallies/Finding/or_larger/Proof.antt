@@ -4,7 +4,7 @@ use mathlib.Core.Path.{_≡_, ap, ap₂, _∙_}
 use borrow.Author.Needs.{needs}
 use borrow.Author.Tests.{lt-ltb, le-ltb}
 use Rattle.units.specs.Sides.{sideNumber}
-use Rattle.entry.specs.Errors.{unit, iOf, jOf, low, high, worst, side, sideBySizes}
+use Rattle.entry.specs.Errors.{unit, iOf, jOf, worst, side, sideBySizes}
 use Rattle.survey.proofs.tallies.Finding.or_larger.Statement.{statement}
 use Rattle.survey.proofs.tallies.Finding.or_larger.Tie as tie
 
