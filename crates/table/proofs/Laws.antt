@@ -9,6 +9,8 @@ pub mod Built
 pub mod AnyOrder
 pub mod Shown
 pub mod Wide
+pub mod Largest
+pub mod Fields
 pub mod Shift
 pub mod Lookup
 pub mod Found

@@ -1,2 +1,3 @@
 pub mod Good
 pub mod Located
+pub mod Largest

@@ -4,9 +4,11 @@ use Prim.Native.Nat.{ℕ, suc, _^_}
 use mathlib.Core.Bool.{Bool, false, _||_, cond}
 use mathlib.Core.List.{List, [], _∷_, _++_}
 use lib.ListN.{length, take}
-use Rattle.units.specs.Refusals.{Test, test, reply, tableTests}
+use Rattle.units.specs.Refusals.{Reply, reply, Test, test, refusalNumber, tableTests}
 use Rattle.units.specs.declared.shapes.Shape.{Shape}
 use Rattle.entry.specs.Fields.{isWide}
+use Rattle.table.specs.declared.fields.FieldsOutcome.{FieldsOutcome}
+use Rattle.table.specs.declared.fields.FieldsOutcome.the-variants.{Done, TooWide, Refused}
 
 -- whether one of the fields is over-wide
 unfoldable pub anyWide : Shape → List ℕ → Bool
@@ -24,3 +26,9 @@ wideAmong s n fs = test (anyWide s fs) (reply 5 (firstWide s n fs))
 -- "Survey and check look for 5 in the whole lent table (or bank) first": 1, 2, 3, 5. The table is the first 2^k cells
 abbrev pub fieldTests : Shape → List ℕ → List Test
 fieldTests s cells = tableTests s (length cells) ++ (wideAmong s 0 (take (2 ^ s .k) cells) ∷ [])
+
+-- what the tests end in: "done", 5 with its n, or a number only
+abbrev pub fieldsReply : FieldsOutcome → Reply
+fieldsReply Done = reply 0 0
+fieldsReply (TooWide n) = reply 5 (n .0)
+fieldsReply (Refused r) = reply (refusalNumber r) 0

@@ -1,4 +1,3 @@
-pub mod Wide
 pub mod Scan
 pub mod Verdict
 pub mod Finding

@@ -1,13 +1,13 @@
 -- The answer of "Check". Document 01, "The calls" and "Refusal numbers and their order". Assumes nothing.
 use Prim.Native.Nat.{ℕ, suc, _^_}
 use mathlib.Core.Bool.{Bool, true, false, cond}
-use mathlib.Core.List.{List, [], _∷_, _++_}
-use lib.ListN.{length, take}
-use Rattle.units.specs.Refusals.{Reply, reply, Test, answer, refusalNumber, tableTests}
+use mathlib.Core.List.{List, [], _∷_}
+use lib.ListN.{take}
+use Rattle.units.specs.Refusals.{Reply, reply, answer, refusalNumber}
 use Rattle.units.specs.declared.shapes.Shape.{Shape}
 use Rattle.entry.specs.Errors.{unit, iOf, jOf, worst}
 use Rattle.entry.specs.Least.{leastWorst, isBest}
-use Rattle.table.specs.Wide.{wideAmong}
+use Rattle.table.specs.Wide.{fieldTests}
 use Rattle.verdict.specs.declared.CheckAnswer.{CheckAnswer}
 use Rattle.verdict.specs.declared.CheckAnswer.the-variants.{Yes, NotBest, TooWide, Refused}
 
@@ -43,10 +43,6 @@ firstFailing good s n (f ∷ fs) =
     cond (good n (jOf s f)) (firstFailing good s (suc n) fs)
     (notBest n (worst (unit s) (iOf s n) (jOf s f)) (leastWorst s n))
 
--- the check of a table's fields after a call's other tests: 5 "in the whole lent table first", then whether each entry is best
-abbrev pub checkAfter : List Test → Shape → List ℕ → Report
-checkAfter tests s fields = answer refused (firstFailing (isBest s) s 0 fields) (tests ++ (wideAmong s 0 fields ∷ []))
-
--- 1, 2, 3, then 5: the table is the first 2^k cells
+-- 1, 2, 3, then 5 "in the whole lent table first", then whether each entry is best: the table is the first 2^k cells
 abbrev pub checkReport : Shape → List ℕ → Report
-checkReport s cells = checkAfter (tableTests s (length cells)) s (take (2 ^ s .k) cells)
+checkReport s cells = answer refused (firstFailing (isBest s) s 0 (take (2 ^ s .k) cells)) (fieldTests s cells)

@@ -13,8 +13,8 @@ use Rattle.units.specs.declared.shapes.Shape.{Shape}
 use Rattle.units.proofs.Laws.Order.{by-order}
 use Rattle.entry.specs.Fields.{fieldsEnd, isWide}
 use Rattle.entry.proofs.Laws.Fields.{fields-end-positive}
 use Rattle.table.specs.Wide.{anyWide}
-use Rattle.verdict.specs.Inner.Largest.{largestOf}
+use Rattle.table.specs.Inner.Largest.{largestOf}
 
 -- the largest field, one after the other
 pub largest-past : (cells : List ℕ) (at : ℕ) → length cells ≤ at → largestOf (drop at cells) ≡ 0

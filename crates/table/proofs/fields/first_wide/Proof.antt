@@ -1,4 +1,4 @@
--- `verdict::first_wide` meets its contract. The loop's invariant: one of the cells from `at` on is over-wide, and the first of them is
+-- `table::first_wide` meets its contract. The loop's invariant: one of the cells from `at` on is over-wide, and the first of them is
 -- the first of all. Assumes nothing.
 use Prim.Native.Nat.{_-_, _<_}
 use mathlib.Core.Bool.{true}
@@ -7,10 +7,10 @@ use native.Mathlib.Omega.{arith}
 use borrow.Author.Needs.{needs}
 use borrow.Author.Tests.{not-true, not-false}
 use lib.ListN.{length, drop}
 use Rattle.table.specs.Wide.{anyWide, firstWide}
 use Rattle.table.proofs.Laws.Wide.{wide-within, wide-here, wide-after}
-use Rattle.verdict.proofs.first_wide.Statement.{statement}
-use Rattle.verdict.proofs.first_wide.Tie as tie
+use Rattle.table.proofs.fields.first_wide.Statement.{statement}
+use Rattle.table.proofs.fields.first_wide.Tie as tie
 
 abbrev Inv-loop : tie.InvT-loop
 Inv-loop shape cells at₀ at = (anyWide shape (drop at cells) ≡ true) × (firstWide shape at (drop at cells) ≡ firstWide shape 0 cells)

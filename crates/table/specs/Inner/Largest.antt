@@ -1,4 +1,4 @@
--- The largest of some fields, by which the check sees whether one is over-wide. Assumes nothing.
+-- The largest of some fields, by which it is seen whether one is over-wide. Assumes nothing.
 use Prim.Native.Nat.{ℕ, max}
 use mathlib.Core.List.{List, [], _∷_}
 

@@ -1,14 +1,14 @@
--- `verdict::largest` meets its contract. The loop's invariant: the larger of what is found and the largest of the cells from `at` on is
+-- `table::largest` meets its contract. The loop's invariant: the larger of what is found and the largest of the cells from `at` on is
 -- the largest of all. Assumes nothing.
 use Prim.Native.Nat.{_-_, _≤_, max}
 use mathlib.Core.Path.{_≡_}
 use native.Mathlib.Omega.{arith}
 use borrow.Author.Needs.{needs}
 use lib.ListN.{length, drop}
-use Rattle.verdict.specs.Inner.Largest.{largestOf}
-use Rattle.verdict.proofs.Laws.Wide.{largest-past, largest-after}
-use Rattle.verdict.proofs.largest.Statement.{statement}
-use Rattle.verdict.proofs.largest.Tie as tie
+use Rattle.table.specs.Inner.Largest.{largestOf}
+use Rattle.table.proofs.Laws.Largest.{largest-past, largest-after}
+use Rattle.table.proofs.fields.largest.Statement.{statement}
+use Rattle.table.proofs.fields.largest.Tie as tie
 
 abbrev Inv-loop : tie.InvT-loop
 Inv-loop cells most₀ at₀ most at = (at ≤ length cells) × (max most (largestOf (drop at cells)) ≡ largestOf cells)
