@@ -8,6 +8,7 @@ pub mod Past
 pub mod Built
 pub mod AnyOrder
 pub mod Shown
+pub mod First
 pub mod Wide
 pub mod Largest
 pub mod Fields

@@ -1,24 +1,23 @@
 -- Number 5 over a list of fields: "number and the smallest such n". Document 01, "Refusal numbers and their order".
 -- Assumes nothing.
-use Prim.Native.Nat.{ℕ, suc, _^_}
-use mathlib.Core.Bool.{Bool, false, _||_, cond}
+use Prim.Native.Nat.{ℕ, _^_}
+use mathlib.Core.Bool.{Bool}
 use mathlib.Core.List.{List, [], _∷_, _++_}
 use lib.ListN.{length, take}
 use Rattle.units.specs.Refusals.{Reply, reply, Test, test, refusalNumber, tableTests}
 use Rattle.units.specs.declared.shapes.Shape.{Shape}
 use Rattle.entry.specs.Fields.{isWide}
+use Rattle.table.specs.First.{anyOf, firstOf}
 use Rattle.table.specs.declared.fields.FieldsOutcome.{FieldsOutcome}
 use Rattle.table.specs.declared.fields.FieldsOutcome.the-variants.{Done, TooWide, Refused}
 
 -- whether one of the fields is over-wide
-unfoldable pub anyWide : Shape → List ℕ → Bool
-anyWide s [] = false
-anyWide s (f ∷ fs) = isWide s f || anyWide s fs
+abbrev pub anyWide : Shape → List ℕ → Bool
+anyWide s fs = anyOf (isWide s) fs
 
 -- the smallest n whose field is, where the first of the fields is that of interval n
-unfoldable pub firstWide : Shape → ℕ → List ℕ → ℕ
-firstWide s n [] = 0
-firstWide s n (f ∷ fs) = cond (isWide s f) n (firstWide s (suc n) fs)
+abbrev pub firstWide : Shape → ℕ → List ℕ → ℕ
+firstWide s n fs = firstOf (isWide s) n fs
 
 abbrev pub wideAmong : Shape → ℕ → List ℕ → Test
 wideAmong s n fs = test (anyWide s fs) (reply 5 (firstWide s n fs))

@@ -14,7 +14,7 @@
 --     banks-report-whole, whole-reports-largest    the banks' reports give that of the whole table, in whatever order they come
 --     bank-of-shown                        the survey of a bank in its table is that of the bank shown
 --     check-names-first-failing, not-best-larger    the check names the first entry that is not best
---     first-wide-is-smallest, and of the reports check-names-smallest, survey-names-smallest, survey-bank-names-smallest,
+--     first-is-smallest, and of the reports check-names-smallest, survey-names-smallest, survey-bank-names-smallest,
 --     survey-bank-of-names-smallest        5 names the smallest n of an over-wide field
 --     survey-past-table, bank-past-bank, bank-of-past-bank, check-past-table, shown-past-table, show-bank-number-past-table,
 --     build-number-past-table, built-past-table, build-bank-number-past-table, bank-built-past-table
@@ -32,7 +32,7 @@ pub use Rattle.table.proofs.Laws.Lookup.{look-up-contains, lookup-by-one-cell}
 pub use Rattle.table.proofs.Laws.Past.{build-number-past-table, built-past-table, build-bank-number-past-table, bank-built-past-table, show-bank-number-past-table, shown-past-table}
 pub use Rattle.table.proofs.Laws.Shift.{shift-reaches, shift-stays, no-smaller-shift, shift-is-one}
 pub use Rattle.table.proofs.Laws.Shown.{shown-whole, empty-is-refused, refused-is-empty}
-pub use Rattle.table.proofs.Laws.Wide.{first-wide-is-smallest}
+pub use Rattle.table.proofs.Laws.First.{first-is-smallest}
 pub use Rattle.survey.proofs.Laws.Largest.{largest-is-one}
 pub use Rattle.survey.proofs.Laws.Past.{survey-past-table, bank-past-bank, bank-of-past-bank}
 pub use Rattle.survey.proofs.Laws.Report.{survey-names-smallest, survey-bank-names-smallest, survey-bank-of-names-smallest}

@@ -14,7 +14,7 @@ use Rattle.table.specs.Banks.{bankSize, viewTests, shown}
 use Rattle.table.specs.Build.{rows}
 use Rattle.table.specs.Lookup.{lookedUp, refused, lookupReport}
 use Rattle.table.specs.Shift.{leastFrom, shiftOf}
-use Rattle.table.specs.Wide.{anyWide, firstWide}
+use Rattle.table.specs.First.{anyOf, firstOf}
 use Rattle.survey.specs.Finding.{findingOver}
 use Rattle.survey.specs.Survey.{surveyed, surveyReport}
 use Rattle.verdict.specs.Check.{passed, notBest, firstFailing, checkReport}
@@ -82,7 +82,7 @@ pub record TwelveExamples : Type 0 where
       × (bankSize 5 5 ≡ 1)
 
 pub twelve-examples : TwelveExamples
-unfolding rows rule nearest fieldsEnd isWide cap low high worst side least leastOf answer outside leastFrom shiftOf anyWide firstWide findingOver firstFailing
+unfolding rows rule nearest fieldsEnd isWide cap low high worst side least leastOf answer outside leastFrom shiftOf anyOf firstOf findingOver firstFailing
 twelve-examples =
     record {
       first = refl;

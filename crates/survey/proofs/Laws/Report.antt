@@ -11,8 +11,10 @@ use Rattle.units.specs.declared.shapes.Shape.{Shape}
 use Rattle.units.proofs.Laws.OneToOne.{one-to-one, sideOf, side-reads, byNumber, refused-reads}
 use Rattle.units.proofs.Laws.Tests.{Each, answer-has}
 use Rattle.table.specs.Banks.{bankSize, bankStart, bankOf, namedTests}
+use Rattle.entry.specs.Fields.{isWide}
 use Rattle.table.specs.Wide.{wideAmong}
-use Rattle.table.proofs.Laws.Wide.{SmallestWide, five-names-smallest}
+use Rattle.table.proofs.Laws.First.{Smallest}
+use Rattle.table.proofs.Laws.Wide.{five-names-smallest}
 use Rattle.survey.specs.Finding.{Figures}
 use Rattle.survey.specs.Survey.{Report, refused, reported, surveyAfter, surveyReport, bankReport, bankOfReport}
 use Rattle.survey.specs.Tally.{figuresOf}
@@ -84,22 +86,22 @@ survey-bank-of-unused s h b table =
 -- 5: "number and the smallest such n", the n of the table
 survey-after-names : (tests : List Test) → Each (λ (t : Test). t .gives .number < 5) tests → (s : Shape) (n : ℕ) (fields : List ℕ)
     → surveyAfter tests s n fields .number ≡ 5
-    → SmallestWide s n fields (surveyAfter tests s n fields .finding .n)
+    → Smallest (isWide s) n fields (surveyAfter tests s n fields .finding .n)
 survey-after-names tests below s n fields =
     five-names-smallest (λ (r : Report). r .number) (λ (r : Report). r .finding .n) refused _ (λ b. (refl, refl)) refl tests below s n fields
 
 pub survey-names-smallest : (s : Shape) (cells : List ℕ) → surveyReport s cells .number ≡ 5
-    → SmallestWide s 0 (take (2 ^ s .k) cells) (surveyReport s cells .finding .n)
+    → Smallest (isWide s) 0 (take (2 ^ s .k) cells) (surveyReport s cells .finding .n)
 survey-names-smallest s cells = survey-after-names (tableTests s (length cells)) (omega arith) s 0 (take (2 ^ s .k) cells)
 
 pub survey-bank-names-smallest : (s : Shape) (h b : ℕ) (cells : List ℕ) → bankReport s h b cells .number ≡ 5
-    → SmallestWide s (bankStart (s .k) h b) (take (bankSize (s .k) h) cells) (bankReport s h b cells .finding .n)
+    → Smallest (isWide s) (bankStart (s .k) h b) (take (bankSize (s .k) h) cells) (bankReport s h b cells .finding .n)
 survey-bank-names-smallest s h b cells =
     survey-after-names (namedTests s h b ++ (fewCells (length cells) (bankSize (s .k) h) ∷ [])) (omega arith) s (bankStart (s .k) h b)
     (take (bankSize (s .k) h) cells)
 
 pub survey-bank-of-names-smallest : (s : Shape) (h b : ℕ) (table : List ℕ) → bankOfReport s h b table .number ≡ 5
-    → SmallestWide s (bankStart (s .k) h b) (bankOf (s .k) h b table) (bankOfReport s h b table .finding .n)
+    → Smallest (isWide s) (bankStart (s .k) h b) (bankOf (s .k) h b table) (bankOfReport s h b table .finding .n)
 survey-bank-of-names-smallest s h b table =
     survey-after-names (namedTests s h b ++ (fewCells (length table) (bankStart (s .k) h b + bankSize (s .k) h) ∷ [])) (omega arith) s
     (bankStart (s .k) h b)

@@ -19,7 +19,7 @@ use Rattle.table.specs.Wide.{anyWide, wideAmong}
 use Rattle.table.proofs.Laws.Banks.{bank-within}
 use Rattle.table.proofs.Laws.Good.{good-fields, good-named, table-size}
 use Rattle.table.proofs.Laws.Shown.{bank-whole}
-use Rattle.table.proofs.Laws.Wide.{all-narrow, each-narrow}
+use Rattle.table.proofs.Laws.First.{all-none, each-none}
 use Rattle.survey.specs.Finding.{Figures, fresh, findingOver}
 use Rattle.survey.specs.Survey.{Report, refused, surveyed, surveyAfter, surveyReport, bankOfReport}
 use Rattle.survey.specs.Tally.{started, talliedAll}
@@ -67,14 +67,14 @@ module _ (s : Shape) (cells : List ℕ) (good : GoodFields s cells) where
 
       bank-narrow : anyWide s (bankOf (s .k) h b cells) ≡ false
       bank-narrow =
-          each-narrow s (bankOf (s .k) h b cells)
+          each-none (isWide s) (bankOf (s .k) h b cells)
           (λ i inside.
           let i-in : i < bankSize (s .k) h = omega (arith, bank-size) in
           subst (λ (f : ℕ). isWide s f ≡ false)
           (getD-take (2 ^ s .k) cells (bankStart (s .k) h b + i) 0 (omega (arith, within))
           ∙ sym (getD-drop (bankStart (s .k) h b) cells i 0)
           ∙ sym (getD-take (bankSize (s .k) h) (drop (bankStart (s .k) h b) cells) i 0 i-in))
-          (all-narrow s (take (2 ^ s .k) cells) (good .narrow) (bankStart (s .k) h b + i) (omega (arith, size, within))))
+          (all-none (isWide s) (take (2 ^ s .k) cells) (good .narrow) (bankStart (s .k) h b + i) (omega (arith, size, within))))
 
       abbrev tests : List Test
       tests = namedTests s h b ++ (fewCells (length cells) (bankStart (s .k) h b + bankSize (s .k) h) ∷ [])

@@ -12,7 +12,8 @@ use Rattle.units.specs.Refusals.{reply, Test, answer}
 use Rattle.units.specs.declared.shapes.Shape.{Shape}
 use Rattle.units.proofs.Laws.Tests.{Passed, rest-answers}
 use Rattle.entry.specs.Fields.{isWide}
-use Rattle.table.specs.Wide.{anyWide, firstWide, wideAmong}
+use Rattle.table.specs.First.{anyOf, firstOf}
+use Rattle.table.specs.Wide.{wideAmong}
 use Rattle.survey.specs.Finding.{Figures, fresh, entryFigures, orLarger, findingOver}
 use Rattle.survey.specs.Survey.{Report, refused, surveyed, surveyAfter}
 use Rattle.survey.specs.Tally.{State, started, talliedAt}
@@ -22,16 +23,16 @@ abbrev pub surveyFrom : Shape → ℕ → List ℕ → Figures → Report
 surveyFrom s n fields old = answer refused (surveyed (findingOver s n fields old)) (wideAmong s n fields ∷ [])
 
 none-left : (s : Shape) (n : ℕ) (old : Figures) → surveyFrom s n [] old ≡ surveyed old
-unfolding answer anyWide findingOver
+unfolding answer anyOf findingOver
 none-left s n old = refl
 
 narrow-first : (s : Shape) (n f : ℕ) (fs : List ℕ) (old : Figures) → isWide s f ≡ false
     → surveyFrom s n (f ∷ fs) old ≡ surveyFrom s (suc n) fs (orLarger old (entryFigures s n f))
-unfolding answer anyWide firstWide findingOver
+unfolding answer anyOf firstOf findingOver
 narrow-first s n f fs old e = simp e
 
 wide-first : (s : Shape) (n f : ℕ) (fs : List ℕ) (old : Figures) → isWide s f ≡ true → surveyFrom s n (f ∷ fs) old ≡ refused (reply 5 n)
-unfolding answer anyWide firstWide
+unfolding answer anyOf firstOf
 wide-first s n f fs old e = simp e
 
 -- a tally that has taken the cells before `at`, the first of them that of interval `first`: what is left is the whole survey

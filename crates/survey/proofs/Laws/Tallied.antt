@@ -13,7 +13,7 @@ use Rattle.entry.specs.Fields.{isWide}
 use Rattle.entry.specs.Report.{entryTests}
 use Rattle.entry.proofs.Laws.Good.{good-entry-tests}
 use Rattle.table.specs.Wide.{anyWide, wideAmong}
-use Rattle.table.proofs.Laws.Wide.{none-wide}
+use Rattle.table.proofs.Laws.First.{none-of}
 use Rattle.survey.specs.Finding.{Figures, fresh, entryFigures, orLarger, findingOver}
 use Rattle.survey.specs.Survey.{refused, surveyed, surveyAfter}
 use Rattle.survey.specs.Tally.{State, started, handedBack, tallyReport, talliedAll}
@@ -34,7 +34,7 @@ module _ (s : Shape) (widths : GoodWidths s) where
   unfolding talliedAll findingOver
   tally-is n [] old inside narrow = refl
   tally-is n (f ∷ fs) old inside narrow =
-      let both = none-wide s f fs narrow in
+      let both = none-of (isWide s) f fs narrow in
       ap (λ (t : State). talliedAll t fs .finding) (one-more n f old (omega arith) (both .0))
       ∙ tally-is (suc n) fs (orLarger old (entryFigures s n f)) (omega arith) (both .1)
 

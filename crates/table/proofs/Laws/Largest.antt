@@ -13,6 +13,7 @@ use Rattle.units.specs.declared.shapes.Shape.{Shape}
 use Rattle.units.proofs.Laws.Order.{by-order}
 use Rattle.entry.specs.Fields.{fieldsEnd, isWide}
 use Rattle.entry.proofs.Laws.Fields.{fields-end-positive}
+use Rattle.table.specs.First.{anyOf}
 use Rattle.table.specs.Wide.{anyWide}
 use Rattle.table.specs.Inner.Largest.{largestOf}
 
@@ -27,7 +28,7 @@ unfolding largestOf
 largest-after cells at h = rw (add-one at, drop-cons cells at 0)
 
 pub wide-by-largest : (s : Shape) (fs : List ℕ) → anyWide s fs ≡ isWide s (largestOf fs)
-unfolding anyWide largestOf isWide
+unfolding anyOf largestOf isWide
 wide-by-largest s [] = sym (lt-leb (fieldsEnd s) 0 (fields-end-positive s))
 wide-by-largest s (f ∷ fs) = rw (wide-by-largest s fs) (either (fieldsEnd s) f (largestOf fs))
   where

@@ -39,7 +39,7 @@ filled-part field first count cells part h e =
     rw (e, long, drop-drop)
 
 -- the cells of a table with a filled stretch, one by one
-getD-rows : (field : ℕ → ℕ) (n count : ℕ) (rest : List ℕ) (i : ℕ) → i < count → getD (rows field n count ++ rest) i 0 ≡ field (n + i)
+pub getD-rows : (field : ℕ → ℕ) (n count : ℕ) (rest : List ℕ) (i : ℕ) → i < count → getD (rows field n count ++ rest) i 0 ≡ field (n + i)
 unfolding rows
 getD-rows field n zero rest i h = absurd (omega arith)
 getD-rows field n (suc count) rest zero h = ap field (omega arith)

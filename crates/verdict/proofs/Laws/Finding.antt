@@ -16,7 +16,8 @@ use Rattle.entry.specs.Least.{leastWorst, isBest}
 use Rattle.entry.proofs.Laws.Fields.{field-in-range}
 use Rattle.entry.proofs.Laws.Least.{least-below}
 use Rattle.table.specs.Inner.Good.{GoodFields}
-use Rattle.table.proofs.Laws.Wide.{SmallestWide, five-names-smallest}
+use Rattle.table.proofs.Laws.First.{Smallest}
+use Rattle.table.proofs.Laws.Wide.{five-names-smallest}
 use Rattle.verdict.specs.Check.{Report, refused, checkReport}
 use Rattle.verdict.proofs.Laws.Scan.{FirstFailing, finding-is-first-failing, scan-number}
 use Rattle.verdict.proofs.Laws.Verdict.{scanned}
@@ -38,7 +39,7 @@ check-names-first-failing s cells g e =
 
 -- 5: "number and the smallest such n"
 pub check-names-smallest : (s : Shape) (cells : List ℕ) → checkReport s cells .number ≡ 5
-    → SmallestWide s 0 (take (2 ^ s .k) cells) (checkReport s cells .n)
+    → Smallest (isWide s) 0 (take (2 ^ s .k) cells) (checkReport s cells .n)
 check-names-smallest s cells =
     five-names-smallest (λ (r : Report). r .number) (λ (r : Report). r .n) refused _ (λ b. (refl, refl))
     (scan-number (isBest s) s 0 (take (2 ^ s .k) cells))

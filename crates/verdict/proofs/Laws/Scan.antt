@@ -12,11 +12,11 @@ use lib.Seq.{drop-cons}
 use Rattle.units.specs.declared.shapes.Shape.{Shape}
 use Rattle.units.proofs.Laws.Order.{by-order}
 use Rattle.entry.specs.Errors.{unit, iOf, jOf, worst}
-use Rattle.entry.specs.Fields.{cap}
+use Rattle.entry.specs.Fields.{isWide, cap}
 use Rattle.entry.specs.Least.{leastWorst}
 use Rattle.entry.proofs.Laws.Fields.{field-in-range}
 use Rattle.table.specs.Wide.{anyWide}
-use Rattle.table.proofs.Laws.Wide.{none-wide-from}
+use Rattle.table.proofs.Laws.First.{none-from}
 use Rattle.verdict.specs.Check.{Report, passed, notBest, firstFailing}
 
 -- the scan over the cells from at on
@@ -150,13 +150,13 @@ module _ {good : ℕ → ℕ → Bool} {s : Shape} {cells : List ℕ} {at : ℕ}
 
   module _ (inside : at < length cells) {j : ℕ} (is : j ≡ jOf s (getD cells at 0)) where
     pub scanning-value : (2 ^ s .m ≤ j) × (j ≤ cap s)
-    scanning-value = rw is (field-in-range s (getD cells at 0) (none-wide-from s cells at inside (v .narrow) .0))
+    scanning-value = rw is (field-in-range s (getD cells at 0) (none-from (isWide s) cells at inside (v .narrow) .0))
 
     pub scanning-goes-on : good at j ≡ true → Scanning good s cells (at + 1)
     scanning-goes-on passes =
         record {
           within = omega arith;
-          narrow = none-wide-from s cells at inside (v .narrow) .1;
+          narrow = none-from (isWide s) cells at inside (v .narrow) .1;
           left-is = sym (goes-on good s cells at inside is passes) ∙ v .left-is;
         }
 

@@ -16,10 +16,11 @@ use Rattle.entry.specs.Errors.{unit, iOf, jOf, worst}
 use Rattle.entry.specs.Least.{leastWorst, isBest}
 use Rattle.entry.specs.Rule.{ruleField}
 use Rattle.entry.proofs.Laws.Table.{rule-field-narrow, rule-field-reaches-least}
+use Rattle.entry.specs.Fields.{isWide}
 use Rattle.table.specs.Inner.Good.{GoodFields}
 use Rattle.table.specs.Wide.{fieldTests}
 use Rattle.table.proofs.Laws.Good.{fields-good, good-fields, table-size}
-use Rattle.table.proofs.Laws.Wide.{each-narrow}
+use Rattle.table.proofs.Laws.First.{each-none}
 use Rattle.verdict.specs.Check.{Report, refused, passed, firstFailing, checkReport}
 use Rattle.verdict.proofs.Laws.Scan.{scanFrom, yes-all-pass, all-pass-yes}
 
@@ -71,7 +72,7 @@ module _ (s : Shape) (cells : List ℕ) where
       (record {
         table = g;
         narrow =
-            each-narrow s (take (2 ^ s .k) cells)
+            each-none (isWide s) (take (2 ^ s .k) cells)
             (λ n h.
             let within : n < 2 ^ s .k = omega (arith, table-size cells g) in
             rw (getD-take (2 ^ s .k) cells n 0, rule n within) (rule-field-narrow s within));

@@ -7,8 +7,9 @@ use native.Mathlib.Omega.{arith}
 use borrow.Author.Needs.{needs}
 use borrow.Author.Tests.{not-true, not-false}
 use lib.ListN.{length, drop}
+use Rattle.entry.specs.Fields.{isWide}
 use Rattle.table.specs.Wide.{anyWide, firstWide}
-use Rattle.table.proofs.Laws.Wide.{wide-within, wide-here, wide-after}
+use Rattle.table.proofs.Laws.First.{one-within, first-here, first-after}
 use Rattle.table.proofs.fields.first_wide.Statement.{statement}
 use Rattle.table.proofs.fields.first_wide.Tie as tie
 
@@ -23,7 +24,7 @@ loop-holds c = (c .before .pre .1, refl)
 
 -- so there is a cell
 within : (c : tie.At-loop Inv-loop μ-loop) → c .loop .at < length (c .before .before .args .cells .now)
-within c = wide-within (c .before .before .args .shape) (c .before .before .args .cells .now) (c .loop .at) (c .loop .inv .0)
+within c = one-within (isWide (c .before .before .args .shape)) (c .before .before .args .cells .now) (c .loop .at) (c .loop .inv .0)
 
 shared-slice-read-is-wide : tie.Need-shared-slice-read-is-wide Inv-loop μ-loop
 shared-slice-read-is-wide c = within (c .before)
@@ -35,14 +36,14 @@ loop-again : tie.Need-loop-again Inv-loop μ-loop
 loop-again c =
     let place = c .before .before .before in
     let cells = place .before .before .args .cells .now in
-    let after = wide-after _ cells (place .loop .at) (within place) (sym (c .before .is-wide .ensures) ∙ not-true _ (c .if1 .taken)) in
+    let after = first-after (isWide _) cells (place .loop .at) (within place) (sym (c .before .is-wide .ensures) ∙ not-true _ (c .if1 .taken)) in
     (after .0 ∙ place .loop .inv .0, after .1 ∙ place .loop .inv .1)
 
 returns : tie.Need-returns Inv-loop μ-loop
 returns c =
     let place = c .before .before .before in
     let cells = place .before .before .args .cells .now in
-    sym (wide-here _ cells (place .loop .at) (within place) (sym (c .before .is-wide .ensures) ∙ not-false _ (c .if1 .left))) ∙ place .loop .inv .1
+    sym (first-here (isWide _) cells (place .loop .at) (within place) (sym (c .before .is-wide .ensures) ∙ not-false _ (c .if1 .left))) ∙ place .loop .inv .1
 
 pub first-wide-spec : {M : Type 1} → statement M
 first-wide-spec =
