@@ -12,6 +12,8 @@ uint32_t quirelinnet_build(uint32_t k, uint32_t m, uint16_t *table, size_t lent)
 void quirelinnet_check(uint32_t k, uint32_t m, const uint16_t *table, size_t lent, uint64_t out[5]);
 void quirelinnet_survey(uint32_t k, uint32_t m, const uint16_t *table, size_t lent, uint64_t out[4]);
 void quirelinnet_look_up(uint32_t k, uint32_t m, uint32_t x, const uint16_t *table, size_t lent, uint64_t out[4]);
+void quirelinnet_write_memory(uint32_t k, uint32_t m, const uint16_t *table, size_t lent, uint8_t *text, size_t room, uint64_t out[3]);
+void quirelinnet_read_memory(uint32_t k, uint32_t m, const uint8_t *text, size_t length, uint16_t *table, size_t lent, uint64_t out[3]);
 
 static uint32_t no_build(uint32_t k, uint32_t m, uint16_t *table, size_t lent) {
     (void)k, (void)m, (void)table, (void)lent;
@@ -26,6 +28,14 @@ static void no_look_up(uint32_t k, uint32_t m, uint32_t x, const uint16_t *table
     (void)k, (void)m, (void)x, (void)table, (void)lent, (void)out;
 }
 
+static void no_write_memory(uint32_t k, uint32_t m, const uint16_t *table, size_t lent, uint8_t *text, size_t room, uint64_t *out) {
+    (void)k, (void)m, (void)table, (void)lent, (void)text, (void)room, (void)out;
+}
+
+static void no_read_memory(uint32_t k, uint32_t m, const uint8_t *text, size_t length, uint16_t *table, size_t lent, uint64_t *out) {
+    (void)k, (void)m, (void)text, (void)length, (void)table, (void)lent, (void)out;
+}
+
 // Each kind of call as it is made to nothing, to the proved code and to the plain code.
 enum { NOTHING, PROVED, PLAIN, WHO };
 static const char *const who[WHO] = {"nothing", "proved", "plain"};
@@ -34,13 +44,17 @@ typedef void read_call(uint32_t k, uint32_t m, const uint16_t *table, size_t len
 static read_call *volatile check[WHO] = {no_read, quirelinnet_check, plain_check};
 static read_call *volatile survey[WHO] = {no_read, quirelinnet_survey, plain_survey};
 static void (*volatile look_up[WHO])(uint32_t, uint32_t, uint32_t, const uint16_t *, size_t, uint64_t *) = {no_look_up, quirelinnet_look_up, plain_look_up};
+static void (*volatile write_memory[WHO])(uint32_t, uint32_t, const uint16_t *, size_t, uint8_t *, size_t, uint64_t *) = {no_write_memory, quirelinnet_write_memory, plain_write_memory};
+static void (*volatile read_memory[WHO])(uint32_t, uint32_t, const uint8_t *, size_t, uint16_t *, size_t, uint64_t *) = {no_read_memory, quirelinnet_read_memory, plain_read_memory};
 
 __attribute__((noinline)) void mark(void) {
     __asm__ volatile("");
 }
 
-enum { CELLS = 32768, DIVISORS = 65535 };
-static uint16_t table[WHO][CELLS];
+// The longest memory text has four digits and a newline for each cell.
+enum { CELLS = 32768, DIVISORS = 65535, BYTES = 5 * CELLS };
+static uint16_t table[WHO][CELLS], read_back[WHO][CELLS];
+static uint8_t text[WHO][BYTES];
 static uint64_t answer[WHO][5];
 
 static void same(const char *call, const void *a, const void *b, size_t size) {
@@ -89,11 +103,34 @@ static void look_ups(uint32_t k, uint32_t m) {
     }
 }
 
+// The memory text of the table, and the table from that text.
+static void memory(uint32_t k, uint32_t m) {
+    for (int w = 0; w < WHO; w++) {
+        printf("write %u %u %u cell %s\n", k, m, 1u << k, who[w]);
+        mark();
+        write_memory[w](k, m, table[PLAIN], CELLS, text[w], BYTES, answer[w]);
+        mark();
+    }
+    same("write", answer[PROVED], answer[PLAIN], 3 * sizeof(uint64_t));
+    same("write", text[PROVED], text[PLAIN], sizeof text[PLAIN]);
+    size_t length = answer[PLAIN][1];
+    for (int w = 0; w < WHO; w++) {
+        printf("read %u %u %u cell %s\n", k, m, 1u << k, who[w]);
+        mark();
+        read_memory[w](k, m, text[PLAIN], length, read_back[w], CELLS, answer[w]);
+        mark();
+    }
+    same("read", answer[PROVED], answer[PLAIN], 3 * sizeof(uint64_t));
+    same("read", read_back[PROVED], read_back[PLAIN], sizeof read_back[PLAIN]);
+}
+
 int main(void) {
     widths(5, 5);
+    memory(5, 5);
     widths(12, 3);
     widths(10, 12);
     widths(15, 15);
     look_ups(15, 15);
+    memory(15, 15);
     return 0;
 }

@@ -1,4 +1,4 @@
-// Document 01's calls in plain C, which bench/run counts beside the proved ones.
+// The calls of documents 01 and 02 in plain C, which bench/run counts beside the proved ones.
 #ifndef PLAIN_H
 #define PLAIN_H
 
@@ -30,5 +30,9 @@ void plain_check(uint32_t k, uint32_t m, const uint16_t *table, size_t lent, uin
 void plain_survey(uint32_t k, uint32_t m, const uint16_t *table, size_t lent, uint64_t out[4]);
 // number, s, n, j
 void plain_look_up(uint32_t k, uint32_t m, uint32_t x, const uint16_t *table, size_t lent, uint64_t out[4]);
+// number, length, n
+void plain_write_memory(uint32_t k, uint32_t m, const uint16_t *table, size_t lent, uint8_t *text, size_t room, uint64_t out[3]);
+// number, offset, n
+void plain_read_memory(uint32_t k, uint32_t m, const uint8_t *text, size_t length, uint16_t *table, size_t lent, uint64_t out[3]);
 
 #endif

@@ -70,8 +70,13 @@ fn refusal(tests: Tests) -> u64 {
     0
 }
 
+/// The numbers 1, 2 and 3, in that order, of a call on a whole table.
+pub fn table_refusal(k: u64, m: u64, cells: usize) -> u64 {
+    refusal(Tests { k, m: Some(m), lent: Some(Lent::Table(cells)), ..Tests::default() })
+}
+
 /// "5: a field >= 2^m"
-fn too_wide(m: u64, field: u16) -> bool {
+pub fn too_wide(m: u64, field: u16) -> bool {
     field as u64 >= 1 << m
 }
 
@@ -106,12 +111,7 @@ fn built_field(k: u64, m: u64, n: u64) -> u16 {
 
 /// "Build writes fields 0 to 2^k - 1. Cells after them keep their value."
 pub fn build(k: u64, m: u64, cells: &mut [u16]) -> u64 {
-    let number = refusal(Tests {
-        k,
-        m: Some(m),
-        lent: Some(Lent::Table(cells.len())),
-        ..Tests::default()
-    });
+    let number = table_refusal(k, m, cells.len());
     if number == 0 {
         for n in 0..1 << k {
             cells[n] = built_field(k, m, n as u64);
@@ -216,12 +216,7 @@ fn survey_fields(k: u64, m: u64, first_n: u64, fields: &[u16]) -> Survey {
 
 /// "Survey reads any table, optimal or not"
 pub fn survey(k: u64, m: u64, cells: &[u16]) -> Survey {
-    let number = refusal(Tests {
-        k,
-        m: Some(m),
-        lent: Some(Lent::Table(cells.len())),
-        ..Tests::default()
-    });
+    let number = table_refusal(k, m, cells.len());
     if number != 0 {
         return Survey::refused(number);
     }
@@ -318,12 +313,7 @@ pub struct Check {
 /// error and the least one." An entry is best if it reaches the least worst
 /// error, so of two equally good values "the checker accepts both".
 pub fn check(k: u64, m: u64, cells: &[u16]) -> Check {
-    let number = refusal(Tests {
-        k,
-        m: Some(m),
-        lent: Some(Lent::Table(cells.len())),
-        ..Tests::default()
-    });
+    let number = table_refusal(k, m, cells.len());
     if number != 0 {
         return Check { number, ..Check::default() };
     }

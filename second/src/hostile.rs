@@ -7,21 +7,35 @@ use crate::rules;
 
 pub const CALLS: u64 = 40000;
 
-pub struct Drive {
+/// The generator of Park and Miller (MINSTD, multiplier 48271).
+pub struct Generator {
     state: u64,
+}
+
+impl Generator {
+    pub fn new() -> Generator {
+        Generator { state: 1 }
+    }
+
+    pub fn pick(&mut self, n: u64) -> u64 {
+        self.state = self.state * 48271 % 2147483647;
+        self.state % n
+    }
+}
+
+pub struct Drive {
+    generator: Generator,
     cells: [u16; 64],
     pub digest: u64,
 }
 
 impl Drive {
     pub fn new() -> Drive {
-        Drive { state: 1, cells: [0; 64], digest: 0 }
+        Drive { generator: Generator::new(), cells: [0; 64], digest: 0 }
     }
 
-    /// The generator of Park and Miller (MINSTD, multiplier 48271).
     fn pick(&mut self, n: u64) -> u64 {
-        self.state = self.state * 48271 % 2147483647;
-        self.state % n
+        self.generator.pick(n)
     }
 
     fn width(&mut self) -> u64 {

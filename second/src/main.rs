@@ -1,13 +1,17 @@
-//! An independent second program for document 01 (01-scope.md) and paragraph L1
-//! of document 02 (02-change-requests.md). It shares no code with the library it
-//! is compared with. See README.md.
+//! An independent second program for document 01 (01-scope.md) and paragraphs L1
+//! and L2 of document 02 (02-change-requests.md). It shares no code with the
+//! library it is compared with. See README.md.
 
 mod calls;
 #[cfg(test)]
 mod examples;
 mod hostile;
 mod lookups;
+mod memory;
+#[cfg(test)]
+mod memory_examples;
 mod rules;
+mod texts;
 mod widths;
 
 fn main() {
@@ -16,8 +20,9 @@ fn main() {
         ["widths"] => widths::run(),
         ["hostile"] => hostile::run(),
         ["lookups"] => lookups::run(),
+        ["memory"] => texts::run(),
         _ => {
-            eprintln!("usage: second widths | second hostile | second lookups");
+            eprintln!("usage: second widths | second hostile | second lookups | second memory");
             std::process::exit(2);
         }
     }

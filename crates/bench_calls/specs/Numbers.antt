@@ -5,6 +5,8 @@ use mathlib.Core.List.{List, [], _∷_}
 use Rattle.verdict.specs.Check
 use Rattle.survey.specs.Survey
 use Rattle.table.specs.Lookup
+use Rattle.memory_text.specs.Write
+use Rattle.memory_text.specs.Read
 
 abbrev pub checkNumbers : Check.Report → List ℕ
 checkNumbers r = r .number ∷ cond (r .yes) 1 0 ∷ r .n ∷ r .worst ∷ r .least ∷ []
@@ -14,3 +16,9 @@ surveyNumbers r = r .number ∷ r .finding .worst ∷ r .finding .n ∷ r .findi
 
 abbrev pub lookupNumbers : Lookup.Report → List ℕ
 lookupNumbers r = r .number ∷ r .s ∷ r .n ∷ r .j ∷ []
+
+abbrev pub writeNumbers : Write.Report → List ℕ
+writeNumbers r = r .number ∷ r .length ∷ r .n ∷ []
+
+abbrev pub readNumbers : Read.Report → List ℕ
+readNumbers r = r .number ∷ r .offset ∷ r .n ∷ []

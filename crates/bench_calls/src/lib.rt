@@ -8,15 +8,21 @@ ghost use Rattle.table.specs.Build.{built};
 ghost use Rattle.table.specs.Lookup.{lookupReport};
 ghost use Rattle.survey.specs.Survey.{surveyReport};
 ghost use Rattle.verdict.specs.Check.{checkReport};
-ghost use Rattle.bench_calls.specs.Numbers.{checkNumbers, surveyNumbers, lookupNumbers};
+ghost use Rattle.memory_text.specs.Write.{writeReport, writtenBytes};
+ghost use Rattle.memory_text.specs.Read.{readReport, readCells};
+ghost use Rattle.bench_calls.specs.Numbers.{checkNumbers, surveyNumbers, lookupNumbers, writeNumbers, readNumbers};
 use recip::CheckAnswer;
 use recip::LookupAnswer;
+use recip::ReadAnswer;
 use recip::Shape;
 use recip::SurveyAnswer;
+use recip::WriteAnswer;
 use recip::build;
 use recip::check_table;
 use recip::look_up;
+use recip::read_memory;
 use recip::survey_table;
+use recip::write_memory;
 
 // It answers the number itself.
 #[no_mangle]
@@ -81,6 +87,68 @@ pub extern "C" fn quirelinnet_look_up(k: u32, m: u32, x: u32, table: &[u16], out
         }
         LookupAnswer::Refused(r) => {
             *out = [r.number() as u64, 0, 0, 0];
+        }
+    }
+}
+
+// out: number, length, n.
+#[no_mangle]
+pub extern "C" fn quirelinnet_write_memory(
+    k: u32,
+    m: u32,
+    table: &[u16],
+    text: &mut [u8],
+    out: &mut [u64; 3],
+)
+    ensures answer { λ _. ⌜ now (out .exit) ≡ writeNumbers (writeReport (shape k m) (now (table .entry)) (length (now (text .entry)))) ⌝ }
+    ensures bytes { λ _. ⌜ now (text .exit) ≡ writtenBytes (shape k m) (now (table .entry)) (now (text .entry)) ⌝ }
+{
+    match write_memory(Shape { k: k, m: m }, table, text) {
+        WriteAnswer::Written(end) => {
+            *out = [0, end.0 as u64, 0];
+        }
+        WriteAnswer::TooWide(n) => {
+            *out = [5, 0, n.0 as u64];
+        }
+        WriteAnswer::Refused(r) => {
+            *out = [r.number() as u64, 0, 0];
+        }
+    }
+}
+
+// out: number, offset, n.
+#[no_mangle]
+pub extern "C" fn quirelinnet_read_memory(
+    k: u32,
+    m: u32,
+    text: &[u8],
+    table: &mut [u16],
+    out: &mut [u64; 3],
+)
+    ensures answer { λ _. ⌜ now (out .exit) ≡ readNumbers (readReport (shape k m) (now (text .entry)) (length (now (table .entry)))) ⌝ }
+    ensures cells { λ _. ⌜ now (table .exit) ≡ readCells (shape k m) (now (text .entry)) (now (table .entry)) ⌝ }
+{
+    match read_memory(Shape { k: k, m: m }, text, table) {
+        ReadAnswer::Done => {
+            *out = [0, 0, 0];
+        }
+        ReadAnswer::BadToken(from) => {
+            *out = [8, from.0 as u64, 0];
+        }
+        ReadAnswer::PastTable(from) => {
+            *out = [9, from.0 as u64, 0];
+        }
+        ReadAnswer::TooWide(from) => {
+            *out = [5, from.0 as u64, 0];
+        }
+        ReadAnswer::GivenTwice(from) => {
+            *out = [10, from.0 as u64, 0];
+        }
+        ReadAnswer::Missing(n) => {
+            *out = [11, 0, n.0 as u64];
+        }
+        ReadAnswer::Refused(r) => {
+            *out = [r.number() as u64, 0, 0];
         }
     }
 }

@@ -5,3 +5,4 @@ pub mod Calls
 pub mod Unused
 pub mod Unique
 pub mod Examples
+pub mod Texts

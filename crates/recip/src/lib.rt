@@ -3,10 +3,12 @@
 // cannot do what was asked; a refused call writes nothing.
 
 // The kinds of numbers: n of an interval, j of an entry, an error with its sign, and its size; s of a
-// divisor's shift; the side of an entry at which its error is larger; and the refusal numbers.
+// divisor's shift; the side of an entry at which its error is larger; the offset of a byte in a text;
+// and the refusal numbers.
 pub use units::Entry;
 pub use units::Error;
 pub use units::Interval;
+pub use units::Offset;
 pub use units::Outcome;
 pub use units::Refusal;
 pub use units::Shape;
@@ -46,3 +48,9 @@ pub use verdict::check as check_table;
 // Look up: s, n and j of a divisor.
 pub use table::LookupAnswer;
 pub use table::look_up;
+
+// Write memory, read memory: a table as the hex memory text that Verilog's $readmemh reads, and back.
+pub use memory_text::ReadAnswer;
+pub use memory_text::WriteAnswer;
+pub use memory_text::read_memory;
+pub use memory_text::write_memory;

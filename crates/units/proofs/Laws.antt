@@ -3,3 +3,4 @@ pub mod Powers
 pub mod Tests
 pub mod Good
 pub mod OneToOne
+pub mod Lists

@@ -1,10 +1,10 @@
--- Document 01, "Refusal numbers and their order". Assumes nothing.
+-- Document 01, "Refusal numbers and their order", and the numbers of document 02. Assumes nothing.
 use Prim.Native.Nat.{ℕ, _^_}
 use mathlib.Core.Bool.{Bool, _||_, cond}
 use mathlib.Core.List.{List, [], _∷_, _++_}
 use lib.Dec.{ltb, leb, eqb}
 use Rattle.units.specs.declared.refusals.Refusal.{Refusal}
-use Rattle.units.specs.declared.refusals.Refusal.the-variants.{InputWidth, OutputWidth, FewCells, Place, Divisor, Line}
+use Rattle.units.specs.declared.refusals.Refusal.the-variants.{InputWidth, OutputWidth, FewCells, Place, Divisor, Line, ShortText}
 use Rattle.units.specs.declared.shapes.Shape.{Shape}
 use Rattle.units.specs.declared.refusals.Outcome.{Outcome}
 use Rattle.units.specs.declared.refusals.Outcome.the-variants.{Done, Refused}
@@ -17,6 +17,7 @@ refusalNumber FewCells = 3
 refusalNumber Place = 4
 refusalNumber Divisor = 6
 refusalNumber Line = 7
+refusalNumber ShortText = 17
 
 -- The column "What comes back": the number and, with 5, an n. "Fields that an answer doesn't use are zero."
 pub record Reply : Type 0 where
@@ -83,6 +84,10 @@ place k n = test (leb (2 ^ k) n) (reply 4 0)
 -- 6, as document 02 has it: "X is 0 or above 65535"
 abbrev pub divisor : ℕ → Test
 divisor x = test (outside 1 65535 x) (reply 6 0)
+
+-- 17, of document 02: "the lent text buffer is too short"
+abbrev pub shortText : ℕ → ℕ → Test
+shortText lent needed = test (ltb lent needed) (reply 17 0)
 
 -- the tests of every call that takes both widths begin so
 abbrev pub widthTests : Shape → List Test

@@ -19,6 +19,9 @@ pub struct Entry(pub u32);
 // The number s of places by which a divisor X is shifted to X·2^s.
 pub struct Shift(pub u32);
 
+// The offset of a byte in a text, which counts bytes from 0. A text's length is the offset of its end.
+pub struct Offset(pub usize);
+
 // An error at one end of an interval, in parts of 2^(k+m+1). It has a sign.
 pub struct Error(pub i64);
 

@@ -9,6 +9,7 @@ pub use kinds::Entry;
 pub use kinds::Error;
 pub use kinds::Interval;
 pub use kinds::LeftEnd;
+pub use kinds::Offset;
 pub use kinds::Shift;
 pub use kinds::Side;
 pub use kinds::Worst;

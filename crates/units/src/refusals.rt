@@ -9,7 +9,7 @@ use crate::powers::power;
 use crate::shapes::Shape;
 
 // The refusals that give a number only. Number 5 names an interval besides, so it stands beside them
-// in every answer.
+// in every answer, and so do those of a memory text that name a place: 8, 9, 10 and 11.
 pub enum Refusal {
     // 1: k is not from 1 to 15.
     InputWidth,
@@ -23,6 +23,8 @@ pub enum Refusal {
     Divisor,
     // 7: the listing's input line has another form.
     Line,
+    // 17: the lent text buffer is too short.
+    ShortText,
 }
 
 impl Refusal {
@@ -37,6 +39,7 @@ impl Refusal {
             Refusal::Place => 4,
             Refusal::Divisor => 6,
             Refusal::Line => 7,
+            Refusal::ShortText => 17,
         }
     }
 }

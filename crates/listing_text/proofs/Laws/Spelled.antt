@@ -1,11 +1,13 @@
 -- Digits that are put into a page from the last to the first. Assumes nothing.
 use Prim.Native.Nat.{ℕ, zero, suc, _+_, _-_, _/_, _%_, _≤_, _<_}
-use mathlib.Core.Path.{_≡_, refl, ap, sym, _∙_}
-use mathlib.Core.List.{List, _∷_, _++_, append-assoc}
+use mathlib.Core.Path.{_≡_, refl, sym}
+use mathlib.Core.List.{List, _++_, append-assoc}
 use native.Mathlib.Nat.{add-zero, add-suc}
 use native.Mathlib.Omega.{arith}
 use lib.ListN.{length, take, drop, set, length-append, length-drop, take-append-drop}
-use lib.Seq.{length-take-le, take-set-le, set-split, drop-at, take-at}
+use lib.Seq.{length-take-le, take-set-le, take-at}
+use Rattle.units.proofs.Laws.Lists.{drop-set}
+use Rattle.memory_text.proofs.Laws.Digits.{length-digits}
 use Rattle.io.specs.Digits.{glyph, digits}
 use Rattle.listing_text.specs.Inner.Pages.{Put}
 
@@ -13,17 +15,8 @@ use Rattle.listing_text.specs.Inner.Pages.{Put}
 abbrev pub spelled : ℕ → List ℕ → ℕ → ℕ → ℕ → List ℕ
 spelled b page at left n = take at page ++ (digits b left n ++ drop (at + left) page)
 
-pub length-digits : (b k n : ℕ) → length (digits b k n) ≡ k
-length-digits b zero n = refl
-length-digits b (suc k) n = rw (length-append (digits b k (n / b)), length-digits b k (n / b)) (omega arith)
-
 pub spelled-none : (b : ℕ) (page : List ℕ) (at n : ℕ) → spelled b page at 0 n ≡ page
 spelled-none b page at n = rw add-zero (take-append-drop at page)
-
--- a store, and what stands after it
-drop-set : (l : List ℕ) (i a : ℕ) → i < length l → drop i (set l i a) ≡ a ∷ drop (suc i) l
-drop-set l i a h =
-    ap (drop i) (set-split l i a h) ∙ drop-at (take i l) (a ∷ drop (suc i) l) i (length-take-le i l (omega arith))
 
 -- where the last digit is put, the others are left
 pub spelled-last : (b : ℕ) (page : List ℕ) (at left n : ℕ) → 0 < left → at + left ≤ length page

@@ -23,6 +23,12 @@
 --                                          (reached at the left end)", at every x
 --     worst-bounds-error, worst-is-least-bound    a fraction bounds the error at every x iff the worst error is at most that
 --     nearest-is-nearest                   "Nearest is worked out exactly": no whole number is nearer
+--     written-reads-back                   "Read back, a written table is the same table": for every table of good fields, into any cells
+--     done-gives-all                       a reading that is done has every cell given exactly once, and the cells are those values
+--     lacking-names-smallest               "11 gives the smallest missing n": it is not given, and each one before it is, once
+--     laid-out, gap-passes                 what the tokens of a text are, wherever white space and comments stand between them
+--     same-words-read-alike                and these change nothing but offsets
+--     read-number-past-table, read-cells-past-table, write-number-past-table, written-past-table    cells past the table, of memory texts
 pub use Rattle.entry.proofs.Laws.Everywhere.{error-above-low, error-at-most-high, high-reached, low-approached, worst-bounds-error, worst-is-least-bound}
 pub use Rattle.entry.proofs.Laws.Nearest.{nearest-is-nearest}
 pub use Rattle.table.proofs.Laws.AnyOrder.{banks-in-any-order}
@@ -40,3 +46,8 @@ pub use Rattle.survey.proofs.Laws.Reported.{survey-reports-largest, survey-is-t
 pub use Rattle.survey.proofs.Laws.Shown.{bank-of-shown}
 pub use Rattle.verdict.proofs.Laws.Finding.{check-names-first-failing, check-names-smallest, not-best-larger}
 pub use Rattle.verdict.proofs.Laws.Verdict.{check-past-table}
+pub use Rattle.memory_text.proofs.Laws.Alike.{Alike, same-words-read-alike}
+pub use Rattle.memory_text.proofs.Laws.Gifts.{GivesAll, done-gives-all, NamesMissing, lacking-names-smallest}
+pub use Rattle.memory_text.proofs.Laws.Layout.{gap-passes, laid-out}
+pub use Rattle.memory_text.proofs.Laws.Past.{read-number-past-table, read-cells-past-table, write-number-past-table, written-past-table}
+pub use Rattle.memory_text.proofs.Laws.RoundTrip.{ReadsAs, written-reads-back}

@@ -32,6 +32,7 @@ use Rattle.table.specs.Wide.{wideAmong, fieldTests}
 use Rattle.survey.specs.Survey as survey-specs
 use Rattle.survey.specs.Tally as tally-specs
 use Rattle.verdict.specs.Check as check-specs
+use Rattle.memory_text.specs.Write as write-specs
 use Rattle.verdict.proofs.Laws.Scan.{scan-number}
 pub use Rattle.table.proofs.Laws.Built.{built-reaches-least, built-entry, bank-built-reaches-least, bank-built-entry}
 pub use Rattle.verdict.proofs.Laws.Verdict.{yes-exactly-if-best}
@@ -98,3 +99,8 @@ look-up-number s x cells =
     (lookup-specs.lookupTests s x cells (lookup-specs.indexOf s (shifted x)))
     (λ b. refl)
     refl
+
+pub write-memory-number : (s : Shape) (cells : List ℕ) (room : ℕ)
+    → write-specs.writeReport s cells room .number ≡ refusal (write-specs.writeTests s cells room) .number
+write-memory-number s cells room =
+    answer-number (λ (r : write-specs.Report). r .number) write-specs.refused _ (write-specs.writeTests s cells room) (λ b. refl) refl

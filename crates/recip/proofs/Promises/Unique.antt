@@ -23,6 +23,11 @@ use Rattle.survey.specs.declared.tallies.Tally.{Tally}
 use Rattle.survey.specs.declared.tallies.TallyAnswer.{TallyAnswer}
 use Rattle.survey.proofs.Laws.Report as survey-laws
 use Rattle.survey.proofs.Laws.TallyReport as tally-laws
+use Rattle.memory_text.specs.Read as read-specs
+use Rattle.memory_text.specs.Write as write-specs
+use Rattle.memory_text.specs.declared.reading.ReadAnswer.{ReadAnswer}
+use Rattle.memory_text.specs.declared.writing.WriteAnswer.{WriteAnswer}
+use Rattle.memory_text.proofs.Laws.Report.{read-one-to-one, written-one-to-one}
 use Rattle.verdict.specs.Check as check-specs
 use Rattle.verdict.specs.declared.CheckAnswer.{CheckAnswer}
 use Rattle.verdict.proofs.Laws.Report as check-laws
@@ -97,7 +102,20 @@ pub look-up-unique : (s : Shape) (x : ℕ) (cells : List ℕ) (a b : LookupAnswe
     → a ≡ b
 look-up-unique s x cells = unique lookup-specs.reported lookup-laws.reported-one-to-one _
 
--- the contents of cells: what Build and Build a bank leave, and what Show a bank hands out
+pub write-memory-unique : (s : Shape) (cells : List ℕ) (room : ℕ) (a b : WriteAnswer)
+    → write-specs.reported a ≡ write-specs.writeReport s cells room
+    → write-specs.reported b ≡ write-specs.writeReport s cells room
+    → a ≡ b
+write-memory-unique s cells room = unique write-specs.reported written-one-to-one _
+
+pub read-memory-unique : (s : Shape) (text : List ℕ) (lent : ℕ) (a b : ReadAnswer)
+    → read-specs.reported a ≡ read-specs.readReport s text lent
+    → read-specs.reported b ≡ read-specs.readReport s text lent
+    → a ≡ b
+read-memory-unique s text lent = unique read-specs.reported read-one-to-one _
+
+-- the contents of cells: what Build, Build a bank, Write memory and Read memory leave, and what Show a bank
+-- hands out
 pub build-cells-unique : (s : Shape) (cells a b : List ℕ) → a ≡ built s cells → b ≡ built s cells → a ≡ b
 build-cells-unique s cells a b p q = p ∙ sym q
 
@@ -106,3 +124,11 @@ build-bank-cells-unique s h n cells a b p q = p ∙ sym q
 
 pub show-bank-unique : (k h n : ℕ) (cells a b : List ℕ) → a ≡ shown k h n cells → b ≡ shown k h n cells → a ≡ b
 show-bank-unique k h n cells a b p q = p ∙ sym q
+
+pub write-memory-bytes-unique : (s : Shape) (cells bytes a b : List ℕ)
+    → a ≡ write-specs.writtenBytes s cells bytes → b ≡ write-specs.writtenBytes s cells bytes → a ≡ b
+write-memory-bytes-unique s cells bytes a b p q = p ∙ sym q
+
+pub read-memory-cells-unique : (s : Shape) (text cells a b : List ℕ)
+    → a ≡ read-specs.readCells s text cells → b ≡ read-specs.readCells s text cells → a ≡ b
+read-memory-cells-unique s text cells a b p q = p ∙ sym q

@@ -5,3 +5,4 @@ pub use Rattle.table.proofs.Laws.Report.{LookupUnused, look-up-unused}
 pub use Rattle.survey.proofs.Laws.Report.{SurveyUnused, survey-unused, survey-bank-unused, survey-bank-of-unused}
 pub use Rattle.survey.proofs.Laws.TallyReport.{take-unused}
 pub use Rattle.verdict.proofs.Laws.Report.{CheckUnused, check-unused}
+pub use Rattle.memory_text.proofs.Laws.Report.{WriteUnused, write-unused, ReadUnused, read-unused}

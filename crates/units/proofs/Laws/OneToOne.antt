@@ -11,7 +11,7 @@ use Rattle.units.specs.declared.kinds.Side.the-variants.{Left, Right, Bo
 use Rattle.units.specs.declared.refusals.Outcome.{Outcome}
 use Rattle.units.specs.declared.refusals.Outcome.the-variants.{Done, Refused}
 use Rattle.units.specs.declared.refusals.Refusal.{Refusal}
-use Rattle.units.specs.declared.refusals.Refusal.the-variants.{InputWidth, OutputWidth, FewCells, Place, Divisor, Line}
+use Rattle.units.specs.declared.refusals.Refusal.the-variants.{InputWidth, OutputWidth, FewCells, Place, Divisor, Line, ShortText}
 
 -- what can be read back is one to one
 pub one-to-one : {A B : Type 0} (f : A → B) (back : B → A) → ((a : A) → back (f a) ≡ a) → (a b : A) → f a ≡ f b → a ≡ b
@@ -28,7 +28,7 @@ side-reads Both = refl
 abbrev pub refusalOf : ℕ → Refusal
 refusalOf q =
     cond (eqb q 1) InputWidth
-    (cond (eqb q 2) OutputWidth (cond (eqb q 3) FewCells (cond (eqb q 4) Place (cond (eqb q 6) Divisor Line))))
+    (cond (eqb q 2) OutputWidth (cond (eqb q 3) FewCells (cond (eqb q 4) Place (cond (eqb q 6) Divisor (cond (eqb q 7) Line ShortText)))))
 
 -- every answer is done, or names an over-wide field, or is refused
 abbrev pub byNumber : {A : Type 0} → ℕ → A → A → (Refusal → A) → A
@@ -42,6 +42,7 @@ refused-reads FewCells done wide refused = refl
 refused-reads Place done wide refused = refl
 refused-reads Divisor done wide refused = refl
 refused-reads Line done wide refused = refl
+refused-reads ShortText done wide refused = refl
 
 outcomeOf : Reply → Outcome
 outcomeOf b = byNumber (b .number) Done Done Refused

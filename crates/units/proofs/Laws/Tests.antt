@@ -4,13 +4,13 @@ use mathlib.Core.Bool.{Bool, true, false, cond, _||_, false≢true}
 use mathlib.Core.List.{List, [], _∷_, _++_}
 use mathlib.Core.Path.{_≡_, refl, sym, ap, ap₂, _∙_}
 use native.Mathlib.Omega.{arith}
-use borrow.Author.Tests.{ltb-false, le-ltb, ne-eqb}
-use lib.Dec.{ltb}
+use borrow.Author.Tests.{ltb-false, le-ltb, ne-eqb, eqb-false}
+use lib.Dec.{ltb, eqb}
 use Rattle.units.specs.Refusals.{Reply, reply, replyOf, refusalNumber, Test, answer, refusal, thenReply, outside}
 use Rattle.units.specs.declared.refusals.Outcome.{Outcome}
 use Rattle.units.specs.declared.refusals.Outcome.the-variants.{Done, Refused}
 use Rattle.units.specs.declared.refusals.Refusal.{Refusal}
-use Rattle.units.specs.declared.refusals.Refusal.the-variants.{InputWidth, OutputWidth, FewCells, Place, Divisor, Line}
+use Rattle.units.specs.declared.refusals.Refusal.the-variants.{InputWidth, OutputWidth, FewCells, Place, Divisor, Line, ShortText}
 
 -- no reason holds
 abbrev pub Passed : List Test → Type 0
@@ -29,6 +29,7 @@ refusal-numbered FewCells = omega arith
 refusal-numbered Place = omega arith
 refusal-numbered Divisor = omega arith
 refusal-numbered Line = omega arith
+refusal-numbered ShortText = omega arith
 
 -- tests that refuse, with others after them
 pub then-refused : (r : Refusal) (next : Reply) → reply (refusalNumber r) 0 ≡ thenReply (reply (refusalNumber r) 0) next
@@ -173,6 +174,23 @@ pub zero-passed : {A : Type 0} (number : A → ℕ) (refuse : Reply → A) (done
     → number (answer refuse done ts) ≡ 0
     → Passed ts
 zero-passed number refuse done ts p gives zero e = all-passed ts p (sym (answer-number number refuse done ts gives zero) ∙ e)
+
+-- and so does any other number that none of the tests gives
+pub other-passed : {A : Type 0} (number : A → ℕ) (refuse : Reply → A) (done : A) (q : ℕ) (ts : List Test)
+    → Each (λ (t : Test). eqb (t .gives .number) q ≡ false) ts
+    → ((b : Reply) → number (refuse b) ≡ b .number)
+    → number (answer refuse done ts) ≡ q
+    → Passed ts
+unfolding answer
+other-passed number refuse done q [] apart gives e = tt
+other-passed {A} number refuse done q (t ∷ ts) apart gives e =
+    by-test (t .holds) refl (other-passed number refuse done q ts (apart .1) gives) e
+  where
+    by-test : (holds : Bool) → t .holds ≡ holds → (number (answer refuse done ts) ≡ q → Passed ts)
+        → number (cond holds (refuse (t .gives)) (answer refuse done ts)) ≡ q
+        → Passed (t ∷ ts)
+    by-test true is rest e = absurd (eqb-false (t .gives .number) q (apart .0) (sym (gives (t .gives)) ∙ e))
+    by-test false is rest e = (is, rest e)
 
 -- what the code knows after a function has made some tests. They refused, so the call's answer is their number
 pub refused-so : {A : Type 0} (refuse : Reply → A) (done : A) (ts rest : List Test) {o : Outcome} (r : Refusal) → o ≡ Refused r → replyOf o ≡ refusal ts

@@ -1,0 +1,43 @@
+-- `bench_calls::quirelinnet_write_memory` meets its contract. Assumes nothing.
+use Rattle.memory_text.specs.Write.{reported}
+use Rattle.bench_calls.specs.Numbers.{writeNumbers}
+use Rattle.bench_calls.proofs.Laws.{numbers-told}
+use borrow.Author.Needs.{needs}
+use Rattle.bench_calls.proofs.quirelinnet_write_memory.Statement.{statement}
+use Rattle.bench_calls.proofs.quirelinnet_write_memory.Tie as tie
+
+returns : tie.Need-returns
+returns c =
+    let told = c .before .before in
+    let write = told .before .before .before .before in
+    (numbers-told reported writeNumbers (told .end .given .1) (write .write-memory .ensures .0), write .write-memory .ensures .1)
+
+returns-2 : tie.Need-returns-2
+returns-2 c =
+    let told = c .before .before .before in
+    let write = told .before .before .before .before in
+    (numbers-told reported writeNumbers (told .n .given .1) (write .write-memory .ensures .0), write .write-memory .ensures .1)
+
+returns-3 : tie.Need-returns-3
+returns-3 c =
+    let told = c .before .before .before in
+    let write = told .before .before .before .before in
+    (rw (c .before .number .ensures) (numbers-told reported writeNumbers (told .r .given .1) (write .write-memory .ensures .0)), write .write-memory .ensures .1)
+
+pub quirelinnet-write-memory-spec : {M : Type 1} → statement M
+quirelinnet-write-memory-spec =
+    tie.close
+    (tie.spec
+    (λ c κs. search needs)
+    (λ c. search needs)
+    (λ c. search needs)
+    (λ c. search needs)
+    (λ c. search needs)
+    (λ c κs. search needs)
+    (λ c. search needs)
+    (λ c. search needs)
+    returns
+    (λ c. search needs)
+    returns-2
+    (λ c. search needs)
+    returns-3)

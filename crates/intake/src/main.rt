@@ -1,0 +1,119 @@
+// The program `intake`: it reads a line with the widths of a table, in the listing's form, and after it
+// a memory text, reads the table out of the text, checks it, and writes one line:
+//
+//     passes                    every entry has the least worst error
+//     not best N WORST LEAST    the first that has not, its worst error and the least
+//     refused NUMBER            the widths (1, 2), or the form of the first line (7)
+//     refused NUMBER PLACE      the text: the offset of the faulty token from the first byte after the
+//                               first line (8, 9, 5, 10), or the smallest n that is missing (11)
+//     too long                  the text has more than 1,048,576 bytes
+//
+// 7 comes first, then "too long", then the call's own numbers.
+ghost use mathlib.Core.Path.{_≡_};
+ghost use lib.ListN.{length};
+use libc::STDIN_FILENO;
+use listing_line::Reading;
+use listing_line::read_line;
+use programs::labelled;
+use programs::long_column;
+use programs::text;
+use programs::zeroed;
+use recip::CheckAnswer;
+use recip::ReadAnswer;
+use recip::Refusal;
+use recip::Shape;
+use recip::check_table;
+use recip::read_memory;
+
+const LONGEST_TEXT: usize = 1048576;
+
+// Room for the longest line, the longest text, and the byte more by which a longer one is told.
+fn blank() -> [u8; 1048583]
+    ensures { λ r. ⌜ 1048583 ≡ length r ⌝ }
+{
+    [0; 1048583]
+}
+
+fn refused(r: Refusal) {
+    labelled(b"refused ", r.number() as u64);
+}
+
+// A refusal that gives a place.
+fn refused_at(number: u64, place: u64) {
+    labelled(b"refused ", number);
+    long_column(place);
+}
+
+// What was read is never refused here, yet what the call answers is written.
+fn check(shape: Shape, table: &[u16]) {
+    match check_table(shape, table) {
+        CheckAnswer::Yes => text(b"passes"),
+        CheckAnswer::NotBest { n, worst, least } => {
+            labelled(b"not best ", n.0 as u64);
+            long_column(worst.0);
+            long_column(least.0);
+        }
+        CheckAnswer::TooWide(n) => refused_at(5, n.0 as u64),
+        CheckAnswer::Refused(r) => refused(r),
+    }
+}
+
+fn take(shape: Shape, memory: &[u8]) {
+    let mut cells = zeroed();
+    match read_memory(shape, memory, &mut cells) {
+        ReadAnswer::Done => check(shape, &cells),
+        ReadAnswer::BadToken(at) => refused_at(8, at.0 as u64),
+        ReadAnswer::PastTable(at) => refused_at(9, at.0 as u64),
+        ReadAnswer::TooWide(at) => refused_at(5, at.0 as u64),
+        ReadAnswer::GivenTwice(at) => refused_at(10, at.0 as u64),
+        ReadAnswer::Missing(n) => refused_at(11, n.0 as u64),
+        ReadAnswer::Refused(r) => refused(r),
+    }
+}
+
+fn take_if_short(shape: Shape, memory: &[u8]) {
+    if LONGEST_TEXT < memory.len() {
+        text(b"too long");
+    } else {
+        take(shape, memory);
+    }
+}
+
+fn ends_line(input: &[u8], at: usize) -> bool {
+    if input.len() <= at {
+        return false;
+    }
+    input[at] == 10
+}
+
+// The place after the first line, if it has 4 to 6 bytes as those of the listing's form have, or 0.
+fn line_end(input: &[u8]) -> usize {
+    if ends_line(input, 3) {
+        return 4;
+    }
+    if ends_line(input, 4) {
+        return 5;
+    }
+    if ends_line(input, 5) {
+        return 6;
+    }
+    0
+}
+
+fn answer(input: &[u8]) {
+    let end = line_end(input);
+    if input.len() < end {
+        return;
+    }
+    match read_line(&input[0..end]) {
+        Reading::Widths(shape) => take_if_short(shape, &input[end..]),
+        Reading::Refused(r) => refused(r),
+    }
+}
+
+fn main() {
+    let mut space = blank();
+    let got = io::read_full(STDIN_FILENO, &mut space);
+    answer(&space[..got]);
+    text(b"\n");
+}

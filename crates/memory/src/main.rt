@@ -1,0 +1,66 @@
+// The program `memory`: it reads the widths from standard input, in the listing's form, and writes the
+// memory text of the best table of those widths, or the refusal.
+ghost use mathlib.Core.Path.{_≡_};
+ghost use lib.ListN.{length};
+use libc::STDIN_FILENO;
+use listing_line::Reading;
+use listing_line::read_line;
+use programs::labelled;
+use programs::text;
+use programs::zeroed;
+use recip::Outcome;
+use recip::Refusal;
+use recip::Shape;
+use recip::WriteAnswer;
+use recip::build;
+use recip::write_memory;
+
+// Room for the longest text, that of (15,15): 32,768 lines of four digits and a newline.
+fn blank() -> [u8; 163840]
+    ensures { λ r. ⌜ 163840 ≡ length r ⌝ }
+{
+    [0; 163840]
+}
+
+fn refuse(r: Refusal) {
+    labelled(b"refused ", r.number() as u64);
+    text(b"\n");
+}
+
+// One write for the whole text. (It is never longer than the bytes that it was written to.)
+fn send(bytes: &[u8], end: usize) {
+    if bytes.len() < end {
+        return;
+    }
+    text(&bytes[0..end]);
+}
+
+// Number 5 never comes: no field of a built table is too wide.
+fn write(shape: Shape, table: &[u16]) {
+    let mut space = blank();
+    let bytes: &mut [u8] = &mut space;
+    match write_memory(shape, table, bytes) {
+        WriteAnswer::Written(end) => send(bytes, end.0),
+        WriteAnswer::TooWide(_) => text(b"refused 5\n"),
+        WriteAnswer::Refused(r) => refuse(r),
+    }
+}
+
+fn write_best(shape: Shape) {
+    let mut cells = zeroed();
+    let table: &mut [u16] = &mut cells;
+    match build(shape, table) {
+        Outcome::Done => write(shape, table),
+        Outcome::Refused(r) => refuse(r),
+    }
+}
+
+// The longest line has 6 bytes, so 8 are enough to tell a line from any other input.
+fn main() {
+    let mut input = [0u8; 8];
+    let got = io::read_full(STDIN_FILENO, &mut input);
+    match read_line(&input[..got]) {
+        Reading::Widths(shape) => write_best(shape),
+        Reading::Refused(r) => refuse(r),
+    }
+}

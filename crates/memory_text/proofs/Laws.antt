@@ -1,0 +1,17 @@
+pub mod Bytes
+pub mod Places
+pub mod Numerals
+pub mod Next
+pub mod Given
+pub mod Obey
+pub mod Reached
+pub mod Came
+pub mod Digits
+pub mod Lines
+pub mod Layout
+pub mod Alike
+pub mod Gifts
+pub mod RoundTrip
+pub mod Report
+pub mod Leaves
+pub mod Past

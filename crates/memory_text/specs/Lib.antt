@@ -1,0 +1,7 @@
+pub mod Tokens
+pub mod Words
+pub mod Read
+pub mod Write
+pub mod Layout
+pub mod Gifts
+pub mod Inner

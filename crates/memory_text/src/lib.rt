@@ -1,0 +1,13 @@
+// Memory text, as Verilog's $readmemh reads it: a table written as text, and read back from it.
+mod bytes;
+mod comments;
+mod numerals;
+mod reading;
+mod storing;
+mod tokens;
+mod writing;
+
+pub use reading::ReadAnswer;
+pub use reading::read_memory;
+pub use writing::WriteAnswer;
+pub use writing::write_memory;
