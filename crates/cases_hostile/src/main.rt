@@ -7,6 +7,7 @@ ghost use Prim.Native.Nat.{_<_, _≤_};
 use programs::digest_of;
 use programs::long_column;
 use programs::number;
+use programs::pick;
 use programs::stir;
 use programs::stir_cells;
 use programs::text;
@@ -41,15 +42,6 @@ struct Inputs {
     f: u16,
     x: u32,
     lent: usize,
-}
-
-// The generator of Park and Miller: a number below n.
-fn pick(state: &mut u64, n: u64) -> u64
-    requires { ⌜ 0 < n ⌝ }
-    ensures { λ r. ⌜ r < n ⌝ }
-{
-    *state = *state % 2147483647 * 48271 % 2147483647;
-    *state % n
 }
 
 fn small(state: &mut u64, n: u64) -> u32

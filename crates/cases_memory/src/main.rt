@@ -13,7 +13,9 @@ use programs::digest_of;
 use programs::labelled;
 use programs::long_column;
 use programs::number;
+use programs::pick;
 use programs::stir;
+use programs::stir_bytes;
 use programs::stir_cells;
 use programs::text;
 use programs::zeroed;
@@ -94,22 +96,6 @@ fn numbers_of_read(a: ReadAnswer) -> Numbers {
     }
 }
 
-// A `byte as u64` in the loop would ask for a proof that the byte fits.
-fn stir_byte(digest: u64, byte: u8) -> u64 {
-    stir(digest, byte as u64)
-}
-
-// The digest of some bytes more.
-fn stir_bytes(before: u64, bytes: &[u8]) -> u64 {
-    let mut digest = before;
-    let mut at = 0;
-    while at < bytes.len() {
-        digest = stir_byte(digest, bytes[at]);
-        at += 1;
-    }
-    digest
-}
-
 // One byte more than the longest text has.
 fn filled() -> [u8; 163841]
     ensures { λ r. ⌜ 163841 ≡ length r ⌝ }
@@ -160,15 +146,6 @@ fn table(k: u32, m: u32) {
     long_column(stir_bytes(0, &bytes));
     read_back(shape, &bytes, written.place);
     text(b"\n");
-}
-
-// The generator of Park and Miller: a number below n.
-fn pick(state: &mut u64, n: u64) -> u64
-    requires { ⌜ 0 < n ⌝ }
-    ensures { λ r. ⌜ r < n ⌝ }
-{
-    *state = *state % 2147483647 * 48271 % 2147483647;
-    *state % n
 }
 
 fn small(state: &mut u64, n: u64) -> usize

@@ -11,6 +11,8 @@
 // 7 comes first, then "too long", then the call's own numbers.
 ghost use mathlib.Core.Path.{_≡_};
 ghost use lib.ListN.{length};
+ghost use Rattle.memory_text.specs.Read.{readReport};
+ghost use Rattle.intake.specs.Accepted.{cellsOf, Accepted};
 use libc::STDIN_FILENO;
 use listing_line::Reading;
 use listing_line::read_line;
@@ -44,10 +46,20 @@ fn refused_at(number: u64, place: u64) {
     long_column(place);
 }
 
-// What was read is never refused here, yet what the call answers is written.
-fn check(shape: Shape, table: &[u16]) {
+// The one place that says so: of a text that was read, and whose every entry is best.
+fn passes(shape: Shape, memory: &[u8])
+    requires { ⌜ Accepted shape (now memory) ⌝ }
+{
+    text(b"passes");
+}
+
+// What was read is never refused here, yet what the call answers is written. The text is lent for the
+// contract alone.
+fn check(shape: Shape, memory: &[u8], table: &[u16])
+    requires { ⌜ (readReport shape (now memory) 32768 .number ≡ 0) × (now table ≡ cellsOf shape (now memory)) ⌝ }
+{
     match check_table(shape, table) {
-        CheckAnswer::Yes => text(b"passes"),
+        CheckAnswer::Yes => passes(shape, memory),
         CheckAnswer::NotBest { n, worst, least } => {
             labelled(b"not best ", n.0 as u64);
             long_column(worst.0);
@@ -60,8 +72,9 @@ fn check(shape: Shape, table: &[u16]) {
 
 fn take(shape: Shape, memory: &[u8]) {
     let mut cells = zeroed();
-    match read_memory(shape, memory, &mut cells) {
-        ReadAnswer::Done => check(shape, &cells),
+    let table: &mut [u16] = &mut cells;
+    match read_memory(shape, memory, table) {
+        ReadAnswer::Done => check(shape, memory, table),
         ReadAnswer::BadToken(at) => refused_at(8, at.0 as u64),
         ReadAnswer::PastTable(at) => refused_at(9, at.0 as u64),
         ReadAnswer::TooWide(at) => refused_at(5, at.0 as u64),

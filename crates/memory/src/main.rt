@@ -1,7 +1,9 @@
 // The program `memory`: it reads the widths from standard input, in the listing's form, and writes the
 // memory text of the best table of those widths, or the refusal.
 ghost use mathlib.Core.Path.{_≡_};
-ghost use lib.ListN.{length};
+ghost use lib.ListN.{length, take};
+ghost use Rattle.memory_text.specs.Write.{memoryText};
+ghost use Rattle.memory.specs.Text.{bestText};
 use libc::STDIN_FILENO;
 use listing_line::Reading;
 use listing_line::read_line;
@@ -27,8 +29,11 @@ fn refuse(r: Refusal) {
     text(b"\n");
 }
 
-// One write for the whole text. (It is never longer than the bytes that it was written to.)
-fn send(bytes: &[u8], end: usize) {
+// Writes the text of the best table, which is the bytes up to `end`, and no other. One write for all of
+// it. (It is never longer than the bytes that it was written to.)
+fn send(shape: Shape, bytes: &[u8], end: usize)
+    requires { ⌜ take end (now bytes) ≡ bestText shape ⌝ }
+{
     if bytes.len() < end {
         return;
     }
@@ -36,11 +41,13 @@ fn send(bytes: &[u8], end: usize) {
 }
 
 // Number 5 never comes: no field of a built table is too wide.
-fn write(shape: Shape, table: &[u16]) {
+fn write(shape: Shape, table: &[u16])
+    requires { ⌜ memoryText shape (now table) ≡ bestText shape ⌝ }
+{
     let mut space = blank();
     let bytes: &mut [u8] = &mut space;
     match write_memory(shape, table, bytes) {
-        WriteAnswer::Written(end) => send(bytes, end.0),
+        WriteAnswer::Written(end) => send(shape, bytes, end.0),
         WriteAnswer::TooWide(_) => text(b"refused 5\n"),
         WriteAnswer::Refused(r) => refuse(r),
     }

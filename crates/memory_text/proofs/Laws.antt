@@ -9,9 +9,11 @@ pub mod Came
 pub mod Digits
 pub mod Lines
 pub mod Layout
+pub mod Every
 pub mod Alike
 pub mod Gifts
 pub mod RoundTrip
+pub mod Number
 pub mod Report
 pub mod Leaves
 pub mod Past

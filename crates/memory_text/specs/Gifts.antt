@@ -1,10 +1,10 @@
 -- The cells that a text gives, over its tokens. Document 02, L2. Assumes nothing.
-use Prim.Native.Nat.{ℕ, suc, _+_}
+use Prim.Native.Nat.{ℕ, suc, _+_, _<_}
 use mathlib.Core.Bool.{cond}
 use mathlib.Core.List.{List, [], _∷_}
 use mathlib.Core.Path.{_≡_}
 use lib.Dec.{eqb}
-use lib.ListN.{getD}
+use lib.ListN.{length, getD}
 use Rattle.memory_text.specs.Tokens.{Token, tokens}
 use Rattle.memory_text.specs.Words.{saying}
 
@@ -29,7 +29,7 @@ unfoldable pub times : ℕ → List Gift → ℕ
 times n [] = 0
 times n (g ∷ gs) = cond (eqb (g .cell) n) 1 0 + times n gs
 
--- every value given stands in its cell
+-- every value given is for one of the cells, and stands there
 abbrev pub Stand : List ℕ → List Gift → Type 0
 Stand fields [] = Unit {0}
-Stand fields (g ∷ gs) = (getD fields (g .cell) 0 ≡ g .value) × Stand fields gs
+Stand fields (g ∷ gs) = (g .cell < length fields) × ((getD fields (g .cell) 0 ≡ g .value) × Stand fields gs)

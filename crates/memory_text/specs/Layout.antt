@@ -6,13 +6,14 @@ use mathlib.Core.Path.{_≡_}
 use lib.Dec.{eqb}
 use lib.ListN.{length}
 use Rattle.table.specs.First.{anyOf}
-use Rattle.memory_text.specs.Tokens.{newline, star, slash, isWhite, wordOf, Token, token, tokens}
+use Rattle.memory_text.specs.Tokens.{newline, star, slash, isWhite, wordOf, Token, token, unfinished, tokens}
 
 -- whether a newline is among the bytes of a // comment
 abbrev pub hasNewline : List ℕ → Bool
 hasNewline bytes = anyOf (λ (b : ℕ). eqb b newline) bytes
 
--- whether a slash follows a star among those of a /* comment; whether the byte before them is a star
+-- whether a slash follows a star among those of a /* comment, where the star that opens it does not count; starred says whether the byte
+-- before them is a star that does
 unfoldable pub hasEnd : Bool → List ℕ → Bool
 hasEnd starred [] = false
 hasEnd starred (b ∷ bs) = (eqb b slash && starred) || hasEnd (eqb b star) bs
@@ -27,6 +28,8 @@ pub data Gap : List ℕ → Type 0 where
 pub data Laid : ℕ → List ℕ → List Token → Type 0 where
   nothing : (at : ℕ) → Laid at [] []
   last-line : (at : ℕ) (body : List ℕ) → hasNewline body ≡ false → Laid at (slash ∷ slash ∷ body) []
+  -- a comment without its end is the last token
+  cut : (at : ℕ) (body : List ℕ) → hasEnd false body ≡ false → Laid at (slash ∷ star ∷ body) (unfinished at ∷ [])
   gap : (at : ℕ) (g text : List ℕ) (ts : List Token) → Gap g → Laid (at + length g) text ts → Laid at (g ++ text) ts
   -- the bytes of a token are all up to its end
   word : (at b : ℕ) (bs text : List ℕ) (ts : List Token) → wordOf ((b ∷ bs) ++ text) ≡ b ∷ bs → Laid (at + length (b ∷ bs)) text ts

@@ -23,12 +23,15 @@ pub record Report : Type 0 where
 abbrev pub refused : Reply → Report
 refused b = record { number = b .number; offset = 0; n = b .n }
 
+abbrev pub done : Report
+done = record { number = 0; offset = 0; n = 0 }
+
 abbrev pub faulty : Reply → Report
 faulty b = record { number = b .number; offset = b .n; n = 0 }
 
 -- what each case of the answer says in the documents' numbers
 abbrev pub reported : ReadAnswer → Report
-reported Done = refused (reply 0 0)
+reported Done = done
 reported (BadToken at) = faulty (reply 8 (at .0))
 reported (PastTable at) = faulty (reply 9 (at .0))
 reported (TooWide at) = faulty (reply 5 (at .0))
@@ -82,7 +85,7 @@ abbrev pub lacking : Reply → Reading
 lacking b = record { report = refused b; fields = [] }
 
 abbrev pub complete : List ℕ → Reading
-complete cells = record { report = refused (reply 0 0); fields = cells }
+complete cells = record { report = done; fields = cells }
 
 -- "Without a faulty token, 11 gives the smallest missing n."
 abbrev pub missingAmong : List ℕ → Test

@@ -39,16 +39,16 @@ pub record Token : Type 0 where
 abbrev pub token : ℕ → List ℕ → Token
 token offset word = record { offset = offset; word = word }
 
--- "an unfinished comment" is a faulty token, too: no byte of it is a digit
+-- "an unfinished comment" is a faulty token, too: it stands as its first two bytes, which are no number
 abbrev pub unfinished : ℕ → Token
 unfinished from = token from (slash ∷ star ∷ [])
 
 -- where the next byte stands
 pub data Mode : Type 0 where
   -- in no comment; a token has begun, or not
-  outside : Bool → Mode
-  -- in one that began at an offset: to the end of the line, or not; the byte before is a star, or not
-  comment : Bool → ℕ → Bool → Mode
+  outside : (begun : Bool) → Mode
+  -- in one, to the end of the line or not, that began at an offset; the byte before is a star, or not
+  comment : (line : Bool) → (from : ℕ) → (starred : Bool) → Mode
 
 -- whether the byte b at `at` is the last of a comment: a newline; or a slash after a star, and the fourth byte at the least, since
 -- `/*/` is not finished

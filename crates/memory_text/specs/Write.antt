@@ -1,8 +1,9 @@
 -- The memory text of a table, and the answer of "Write memory". Document 02, L2. Assumes nothing.
-use Prim.Native.Nat.{ℕ, _+_, _/_, _^_}
+use Prim.Native.Nat.{ℕ, zero, suc, _+_, _/_, _%_, _^_}
 use mathlib.Core.List.{List, [], _∷_, _++_}
+use mathlib.Core.Bool.{cond}
+use lib.Dec.{ltb}
 use lib.ListN.{length, take, drop}
-use Rattle.io.specs.Digits.{digits}
 use Rattle.units.specs.Refusals.{Reply, reply, Test, answer, refusalNumber, shortText}
 use Rattle.units.specs.declared.shapes.Shape.{Shape}
 use Rattle.table.specs.Wide.{fieldTests}
@@ -10,13 +11,22 @@ use Rattle.memory_text.specs.Tokens.{newline}
 use Rattle.memory_text.specs.declared.writing.WriteAnswer.{WriteAnswer}
 use Rattle.memory_text.specs.declared.writing.WriteAnswer.the-variants.{Written, TooWide, Refused}
 
+-- "lower-case hex": the byte of a digit below 16, 0 to 9 and then a to f
+abbrev pub hexDigit : ℕ → ℕ
+hexDigit d = cond (ltb d 10) (48 + d) (87 + d)
+
+-- the last digits of a number, as many as `count` says, the most significant first
+abbrev pub hexDigits : ℕ → ℕ → List ℕ
+hexDigits zero f = []
+hexDigits (suc count) f = hexDigits count (f / 16) ++ (hexDigit (f % 16) ∷ [])
+
 -- "as many digits as m bits need", four bits a digit
 abbrev pub digitCount : Shape → ℕ
 digitCount s = (s .m + 3) / 4
 
--- "lower-case hex", "a newline after each"
+-- "a newline after each"
 abbrev pub lineOf : ℕ → ℕ → List ℕ
-lineOf count f = digits 16 count f ++ (newline ∷ [])
+lineOf count f = hexDigits count f ++ (newline ∷ [])
 
 -- "one field per line", in "index order"
 unfoldable pub linesOf : ℕ → List ℕ → List ℕ

@@ -3,8 +3,7 @@ ghost use mathlib.Core.Path.{_≡_};
 ghost use mathlib.Core.List.{_++_};
 ghost use Prim.Native.Nat.{suc, _-_, _*_, _≤_, _<_};
 ghost use lib.ListN.{length, drop};
-ghost use Rattle.io.specs.Digits.{glyph as Digits·glyph};
-ghost use Rattle.memory_text.specs.Write.{lineOf, linesOf, reported, writeReport, writtenBytes};
+ghost use Rattle.memory_text.specs.Write.{hexDigit, lineOf, linesOf, reported, writeReport, writtenBytes};
 use table::FieldsOutcome;
 use table::whole_fields;
 use units::Interval;
@@ -21,13 +20,13 @@ pub enum WriteAnswer {
 }
 
 // "lower-case hex": 0 to 9, a to f.
-const GLYPHS: [u8; 16] = *b"0123456789abcdef";
+const HEX: [u8; 16] = *b"0123456789abcdef";
 
-fn glyph(digit: u16) -> u8
+fn hex_digit(digit: u16) -> u8
     requires { ⌜ digit < 16 ⌝ }
-    ensures { λ r. ⌜ r ≡ Digits·glyph digit ⌝ }
+    ensures { λ r. ⌜ r ≡ hexDigit digit ⌝ }
 {
-    GLYPHS[digit as usize]
+    HEX[digit as usize]
 }
 
 // Writes the line of a field into bytes that it fills: the newline, and the digits from the last to the
@@ -41,7 +40,7 @@ fn put_line(f: u16, line: &mut [u8])
     let mut rest = f;
     while 0 < left {
         left -= 1;
-        line[left] = glyph(rest % 16);
+        line[left] = hex_digit(rest % 16);
         rest /= 16;
     }
 }

@@ -1,4 +1,4 @@
-// Buffers, and the digest by which two programs compare their cells.
+// Buffers, and the digest by which two programs compare their cells and bytes.
 ghost use mathlib.Core.Path.{_≡_};
 ghost use lib.ListN.{length, replicate};
 
@@ -33,6 +33,22 @@ pub fn stir_cells(before: u64, cells: &[u16]) -> u64 {
     let mut at = 0;
     while at < cells.len() {
         digest = stir_cell(digest, cells[at]);
+        at += 1;
+    }
+    digest
+}
+
+// A `byte as u64` in the loop would ask for the same of a byte.
+fn stir_byte(digest: u64, byte: u8) -> u64 {
+    stir(digest, byte as u64)
+}
+
+// The digest of some bytes more.
+pub fn stir_bytes(before: u64, bytes: &[u8]) -> u64 {
+    let mut digest = before;
+    let mut at = 0;
+    while at < bytes.len() {
+        digest = stir_byte(digest, bytes[at]);
         at += 1;
     }
     digest

@@ -19,7 +19,8 @@ refusalNumber Divisor = 6
 refusalNumber Line = 7
 refusalNumber ShortText = 17
 
--- The column "What comes back": the number and, with 5, an n. "Fields that an answer doesn't use are zero."
+-- The column "What comes back": the number and, with 5, an n. "Fields that an answer doesn't use are zero." In the tests of a memory
+-- text it is an n with 11, and with 8, 9, 5 and 10 an offset.
 pub record Reply : Type 0 where
   pub number : ℕ
   pub n : ℕ

@@ -7,13 +7,16 @@ use native.Mathlib.Omega.{arith}
 use lib.ListN.{length, take, drop, set, length-append, length-drop, take-append-drop}
 use lib.Seq.{length-take-le, take-set-le, take-at}
 use Rattle.units.proofs.Laws.Lists.{drop-set}
-use Rattle.memory_text.proofs.Laws.Digits.{length-digits}
 use Rattle.io.specs.Digits.{glyph, digits}
 use Rattle.listing_text.specs.Inner.Pages.{Put}
 
 -- the page with the last `left` digits of n in base b at the place `at`
 abbrev pub spelled : ℕ → List ℕ → ℕ → ℕ → ℕ → List ℕ
 spelled b page at left n = take at page ++ (digits b left n ++ drop (at + left) page)
+
+pub length-digits : (b k n : ℕ) → length (digits b k n) ≡ k
+length-digits b zero n = refl
+length-digits b (suc k) n = rw (length-append (digits b k (n / b)), length-digits b k (n / b)) (omega arith)
 
 pub spelled-none : (b : ℕ) (page : List ℕ) (at n : ℕ) → spelled b page at 0 n ≡ page
 spelled-none b page at n = rw add-zero (take-append-drop at page)

@@ -1,5 +1,4 @@
--- The digits of a number, in any base; and of those in base 16, that they are a numeral of a memory text that shows the number.
--- Assumes nothing.
+-- The digits of a number are a numeral of a memory text that shows the number. Assumes nothing.
 use Prim.Native.Nat.{ℕ, zero, suc, _+_, _*_, _/_, _%_, _^_, _<_}
 use mathlib.Core.Bool.{Bool, true, false, _||_, cond, false≢true}
 use mathlib.Core.List.{List, [], _∷_, _++_}
@@ -10,20 +9,20 @@ use lib.Dec.{eqb}
 use lib.ListN.{length, length-append}
 use lib.Pow.{shr-lt}
 use Rattle.units.proofs.Laws.Order.{by-order}
-use Rattle.io.specs.Digits.{glyph, digits}
+use Rattle.memory_text.specs.Write.{hexDigit, hexDigits}
 use Rattle.memory_text.specs.Tokens.{newline, isWhite, ends, wordOf}
 use Rattle.memory_text.specs.Words.{digitOf, isDigit, underscore, atSign, goesOn, isNumeral, shows, isAddress, numeralOf}
 use Rattle.memory_text.proofs.Laws.Bytes.{both, not-that, digit-goes-on, underscore-goes-on}
 use Rattle.memory_text.proofs.Laws.Numerals.{shows-digit}
 
-pub length-digits : (b k n : ℕ) → length (digits b k n) ≡ k
-length-digits b zero n = refl
-length-digits b (suc k) n = rw (length-append (digits b k (n / b)), length-digits b k (n / b)) (omega arith)
+pub length-digits : (count f : ℕ) → length (hexDigits count f) ≡ count
+length-digits zero f = refl
+length-digits (suc count) f = rw (length-append (hexDigits count (f / 16)), length-digits count (f / 16)) (omega arith)
 
 -- a digit shows what it was written for
-pub glyph-shows : (d : ℕ) → d < 16 → digitOf (glyph d) ≡ d
+pub hex-digit-shows : (d : ℕ) → d < 16 → digitOf (hexDigit d) ≡ d
 unfolding digitOf
-glyph-shows d h =
+hex-digit-shows d h =
     by-order 10 d
     (λ l.
     rw (
@@ -44,12 +43,12 @@ unfolding shows
 shows-append v [] ys = refl
 shows-append v (x ∷ xs) ys = shows-append (cond (isDigit x) (v * 16 + digitOf x) v) xs ys
 
-glyph-is-digit : (d : ℕ) → d < 16 → isDigit (glyph d) ≡ true
+hex-digit-is-digit : (d : ℕ) → d < 16 → isDigit (hexDigit d) ≡ true
 unfolding isDigit
-glyph-is-digit d h = lt-ltb (digitOf (glyph d)) 16 (rw (glyph-shows d h) h)
+hex-digit-is-digit d h = lt-ltb (digitOf (hexDigit d)) 16 (rw (hex-digit-shows d h) h)
 
 -- so the digits of a number show it
-pub digits-show : (count f : ℕ) → f < 2 ^ (4 * count) → shows 0 (digits 16 count f) ≡ f
+pub digits-show : (count f : ℕ) → f < 2 ^ (4 * count) → shows 0 (hexDigits count f) ≡ f
 unfolding shows
 digits-show zero f h = omega (arith, h)
 digits-show (suc count) f h =
@@ -57,9 +56,9 @@ digits-show (suc count) f h =
     let small : last < 16 = omega arith in
     let four-more : 4 * count + 4 ≡ 4 * suc count = omega arith in
     let next : f < 2 ^ (4 * count + 4) = rw four-more h in
-    shows-append 0 (digits 16 count (f / 16)) (glyph last ∷ [])
-    ∙ shows-digit (shows 0 (digits 16 count (f / 16))) (glyph last) [] (glyph-is-digit last small)
-    ∙ rw (digits-show count (f / 16) (shr-lt (4 * count) 4 next), glyph-shows last small) (omega arith)
+    shows-append 0 (hexDigits count (f / 16)) (hexDigit last ∷ [])
+    ∙ shows-digit (shows 0 (hexDigits count (f / 16))) (hexDigit last) [] (hex-digit-is-digit last small)
+    ∙ rw (digits-show count (f / 16) (shr-lt (4 * count) 4 next), hex-digit-shows last small) (omega arith)
 
 -- and they are a numeral
 goes-on-more : (xs : List ℕ) (b : ℕ) → goesOn xs ≡ true → isDigit b ≡ true → goesOn (xs ++ (b ∷ [])) ≡ true
@@ -69,10 +68,10 @@ goes-on-more (x ∷ xs) b e d =
     let t = both (isDigit x || eqb x underscore) (goesOn xs) e in
     rw (t .0) (goes-on-more xs b (t .1) d)
 
-pub digits-go-on : (count f : ℕ) → goesOn (digits 16 count f) ≡ true
+pub digits-go-on : (count f : ℕ) → goesOn (hexDigits count f) ≡ true
 unfolding goesOn
 digits-go-on zero f = refl
-digits-go-on (suc count) f = goes-on-more (digits 16 count (f / 16)) (glyph (f % 16)) (digits-go-on count (f / 16)) (glyph-is-digit (f % 16) (omega arith))
+digits-go-on (suc count) f = goes-on-more (hexDigits count (f / 16)) (hexDigit (f % 16)) (digits-go-on count (f / 16)) (hex-digit-is-digit (f % 16) (omega arith))
 
 numeral-more : (xs : List ℕ) (b : ℕ) → isNumeral xs ≡ true → isDigit b ≡ true → isNumeral (xs ++ (b ∷ [])) ≡ true
 unfolding isNumeral
@@ -81,12 +80,12 @@ numeral-more (x ∷ xs) b e d =
     let t = both (isDigit x) (goesOn xs) e in
     rw (t .0) (goes-on-more xs b (t .1) d)
 
-pub digits-are-numeral : (count f : ℕ) → 0 < count → isNumeral (digits 16 count f) ≡ true
+pub digits-are-numeral : (count f : ℕ) → 0 < count → isNumeral (hexDigits count f) ≡ true
 unfolding isNumeral goesOn
 digits-are-numeral zero f h = absurd (omega arith)
-digits-are-numeral (suc zero) f h = rw (glyph-is-digit (f % 16) (omega arith)) refl
+digits-are-numeral (suc zero) f h = rw (hex-digit-is-digit (f % 16) (omega arith)) refl
 digits-are-numeral (suc (suc count)) f h =
-    numeral-more (digits 16 (suc count) (f / 16)) (glyph (f % 16)) (digits-are-numeral (suc count) (f / 16) (omega arith)) (glyph-is-digit (f % 16) (omega arith))
+    numeral-more (hexDigits (suc count) (f / 16)) (hexDigit (f % 16)) (digits-are-numeral (suc count) (f / 16) (omega arith)) (hex-digit-is-digit (f % 16) (omega arith))
 
 -- a numeral is no address
 pub numeral-is-value : (xs : List ℕ) → isNumeral xs ≡ true → (isAddress xs ≡ false) × (numeralOf xs ≡ xs)

@@ -69,7 +69,7 @@ module _ (address v : ℕ) (cells final : List ℕ) (inside : address < length c
         size = l .size ∙ length-set cells address v;
         once = λ n h. once-more n gs (l .once n (rw (length-set cells address v) h));
         kept = λ n given. kept-still n given (l .kept n);
-        stand = (l .kept address (ap isMissing here ∙ is) ∙ here, l .stand);
+        stand = (omega (arith, inside, l .size, length-set cells address v), (l .kept address (ap isMissing here ∙ is) ∙ here, l .stand));
       }
 
 -- what a token leaves: an address gives nothing

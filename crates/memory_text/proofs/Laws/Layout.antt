@@ -9,8 +9,8 @@ use lib.Dec.{leb, eqb}
 use lib.ListN.{length, drop, length-append}
 use Rattle.units.proofs.Laws.Tests.{or-false}
 use Rattle.table.proofs.Laws.First.{none-of}
-use Rattle.memory_text.specs.Tokens.{newline, star, slash, isWhite, opens, ends, wordOf, Token, token, outside, comment, closes, tokensIn, tokens}
-use Rattle.memory_text.specs.Layout.{hasNewline, hasEnd, Gap, white, line, block, Laid, nothing, last-line, gap, word}
+use Rattle.memory_text.specs.Tokens.{newline, star, slash, isWhite, opens, ends, wordOf, Token, token, unfinished, outside, comment, closes, tokensIn, tokens}
+use Rattle.memory_text.specs.Layout.{hasNewline, hasEnd, Gap, white, line, block, Laid, nothing, last-line, cut, gap, word}
 use Rattle.memory_text.proofs.Laws.Places.{stays-in-token, begins-token, leaves-token}
 
 -- tokens from a place on that is told in two ways
@@ -38,15 +38,25 @@ module _ (from : ℕ) where
       let other = none-of (λ (x : ℕ). eqb x newline) b bs e in
       rw (other .0) (line-cut bs (eqb b star) (suc at) (other .1))
 
-  -- one to its end, from any byte after its first two on
+  -- one to its end, or without one, from any byte after its first two on
+  still : (b at : ℕ) → from + 2 ≤ at → (eqb b star && leb 3 (suc at - from)) ≡ eqb b star
+  still b at h = rw (le-leb 3 (suc at - from) (omega arith)) (and-true (eqb b star))
+
   block-closes : (body text : List ℕ) (starred : Bool) (at : ℕ) → from + 2 ≤ at → hasEnd (starred && leb 3 (at - from)) body ≡ false
       → tokensIn (comment false from starred) at (body ++ (star ∷ slash ∷ text)) ≡ tokensIn (outside false) (at + length body + 2) text
   unfolding tokensIn closes hasEnd
   block-closes [] text starred at h e = rw (le-leb 3 (suc at - from) (omega arith)) (from-there text (omega arith))
   block-closes (b ∷ bs) text starred at h e =
       let none = or-false (eqb b slash && (starred && leb 3 (at - from))) (hasEnd (eqb b star) bs) e in
-      let still : (eqb b star && leb 3 (suc at - from)) ≡ eqb b star = rw (le-leb 3 (suc at - from) (omega arith)) (and-true (eqb b star)) in
-      rw (none .0) (block-closes bs text (eqb b star) (suc at) (omega arith) (ap (λ (x : Bool). hasEnd x bs) still ∙ none .1) ∙ from-there text (omega arith))
+      rw (none .0) (block-closes bs text (eqb b star) (suc at) (omega arith) (ap (λ (x : Bool). hasEnd x bs) (still b at h) ∙ none .1) ∙ from-there text (omega arith))
+
+  block-cut : (body : List ℕ) (starred : Bool) (at : ℕ) → from + 2 ≤ at → hasEnd (starred && leb 3 (at - from)) body ≡ false
+      → tokensIn (comment false from starred) at body ≡ unfinished from ∷ []
+  unfolding tokensIn closes hasEnd
+  block-cut [] starred at h e = refl
+  block-cut (b ∷ bs) starred at h e =
+      let none = or-false (eqb b slash && (starred && leb 3 (at - from))) (hasEnd (eqb b star) bs) e in
+      rw (none .0) (block-cut bs (eqb b star) (suc at) (omega arith) (ap (λ (x : Bool). hasEnd x bs) (still b at h) ∙ none .1))
 
 -- a gap is passed
 pub gap-passes : (at : ℕ) (g text : List ℕ) → Gap g → tokensIn (outside false) at (g ++ text) ≡ tokensIn (outside false) (at + length g) text
@@ -90,6 +100,9 @@ pub laid-out : (at : ℕ) (text : List ℕ) (ts : List Token) → Laid at text t
 unfolding tokensIn isWhite opens closes
 laid-out at text ts (nothing _) = refl
 laid-out at text ts (last-line _ body e) = line-cut at body false (suc (suc at)) e
+laid-out at text ts (cut _ body e) =
+    let first : leb 3 (suc (suc at) - at) ≡ false = lt-leb 3 (suc (suc at) - at) (omega arith) in
+    block-cut at body true (suc (suc at)) (omega arith) (rw first e)
 laid-out at text ts (gap _ g rest _ is laid) = gap-passes at g rest is ∙ laid-out (at + length g) rest ts laid
 laid-out at text ts (word _ b bs rest us e laid) =
     let inside = word-inside b (bs ++ rest) bs e in

@@ -9,28 +9,28 @@ use lib.ListN.{length, take, drop, getD, set, length-append, length-drop, take-a
 use lib.Seq.{drop-cons, drop-drop, take-at, drop-at, length-take-le}
 use Rattle.units.proofs.Laws.Lists.{drop-set}
 use Rattle.memory_text.proofs.Laws.Digits.{length-digits}
-use Rattle.io.specs.Digits.{glyph, digits}
+use Rattle.memory_text.specs.Write.{hexDigit, hexDigits}
 use Rattle.memory_text.specs.Tokens.{newline}
 use Rattle.memory_text.specs.Write.{lineOf, linesOf}
 
 -- the newline, at the end of a line's bytes
 pub newline-put : (line : List ℕ) (f : ℕ) → 0 < length line
-    → digits 16 (length line - 1) f ++ drop (length line - 1) (set line (length line - 1) newline) ≡ lineOf (length line - 1) f
+    → hexDigits (length line - 1) f ++ drop (length line - 1) (set line (length line - 1) newline) ≡ lineOf (length line - 1) f
 newline-put line f h =
-    ap (λ (end : List ℕ). digits 16 (length line - 1) f ++ end)
+    ap (λ (end : List ℕ). hexDigits (length line - 1) f ++ end)
     (drop-set line (length line - 1) newline (omega arith) ∙ ap (λ (rest : List ℕ). newline ∷ rest) (drop-of-length-le line {i = suc (length line - 1)} (omega arith)))
 
 -- where the last digit is put, the others are left
 pub digit-put : (line : List ℕ) (left rest : ℕ) → 0 < left → left ≤ length line
-    → digits 16 (left - 1) (rest / 16) ++ drop (left - 1) (set line (left - 1) (glyph (rest % 16))) ≡ digits 16 left rest ++ drop left line
+    → hexDigits (left - 1) (rest / 16) ++ drop (left - 1) (set line (left - 1) (hexDigit (rest % 16))) ≡ hexDigits left rest ++ drop left line
 digit-put line zero rest some h = absurd (omega arith)
 digit-put line (suc left) rest some h =
     let one-fewer : suc left - 1 ≡ left = omega arith in
-    rw (one-fewer, drop-set line left (glyph (rest % 16)) (omega arith), append-assoc (digits 16 left (rest / 16))) refl
+    rw (one-fewer, drop-set line left (hexDigit (rest % 16)) (omega arith), append-assoc (hexDigits left (rest / 16))) refl
 
 -- a line has a byte for each digit and one for the newline, and a text as many bytes for each line
 pub length-line : (count f : ℕ) → length (lineOf count f) ≡ suc count
-length-line count f = length-append (digits 16 count f) (newline ∷ []) ∙ rw (length-digits 16 count f) (omega arith)
+length-line count f = length-append (hexDigits count f) (newline ∷ []) ∙ rw (length-digits count f) (omega arith)
 
 pub length-lines : (count : ℕ) (fs : List ℕ) → length (linesOf count fs) ≡ length fs * suc count
 unfolding linesOf

@@ -1,23 +1,29 @@
 -- The answers of `write_memory` and `read_memory` can be read back from their numbers, so no two answers have the same; and which of
 -- their values are zero. Assumes nothing.
-use Prim.Native.Nat.{ℕ, _<_}
+use Prim.Native.Nat.{ℕ, _^_, _<_}
 use mathlib.Core.Bool.{cond}
 use mathlib.Core.List.{List, [], _∷_}
-use mathlib.Core.Path.{_≡_, refl}
+use mathlib.Core.Path.{_≡_, refl, ap, subst, _∙_}
 use native.Mathlib.Omega.{arith}
 use lib.Dec.{eqb}
+use lib.ListN.{length, take}
 use Rattle.units.specs.declared.refusals.Refusal.{Refusal}
 use Rattle.units.specs.declared.refusals.Refusal.the-variants.{InputWidth, OutputWidth, FewCells, Place, Divisor, Line, ShortText}
 use Rattle.units.specs.declared.shapes.Shape.{Shape}
-use Rattle.units.specs.Refusals.{reply, answer, tableTests}
+use Rattle.units.specs.Refusals.{Reply, reply, refusal, tableTests, shortText}
 use Rattle.units.proofs.Laws.OneToOne.{one-to-one, byNumber, refused-reads}
-use Rattle.units.proofs.Laws.Tests.{answer-has}
+use Rattle.units.proofs.Laws.Tests.{answer-has, refused-by, rest-answers, all-passed, other-passed, done-by}
+use Rattle.units.proofs.Laws.Order.{by-order}
+use Rattle.entry.specs.Fields.{isWide}
+use Rattle.table.specs.Wide.{fieldTests}
+use Rattle.table.proofs.Laws.First.{Smallest}
+use Rattle.table.proofs.Laws.Wide.{five-names-smallest}
 use Rattle.memory_text.specs.Tokens.{Token, tokens}
 use Rattle.memory_text.specs.Words.{saying}
 use Rattle.memory_text.specs.Read as Read
 use Rattle.memory_text.specs.Read.{Reading, tokenTests, nextAddress, nextCells, stopped, lacking, complete, missingAmong, obeyed, reading, readReport}
 use Rattle.memory_text.specs.Write as Write
-use Rattle.memory_text.specs.Write.{writeTests, writeReport}
+use Rattle.memory_text.specs.Write.{memoryText, writeTests, writeReport}
 use Rattle.memory_text.specs.declared.reading.ReadAnswer.{ReadAnswer}
 use Rattle.memory_text.specs.declared.reading.ReadAnswer.the-variants as read
 use Rattle.memory_text.specs.declared.writing.WriteAnswer.{WriteAnswer}
@@ -108,3 +114,23 @@ pub read-unused : (s : Shape) (text : List ℕ) (lent : ℕ) → ReadUnused (rea
 read-unused s text lent =
     answer-has ReadUnused Read.refused (reading s text .report) (tableTests s lent) (only-number 1, (only-number 2, (only-number 3, tt)))
     (obeyed-unused s 0 _ (tokens text))
+
+-- 5: "number and the smallest such n", of the writer, whose last test is another
+pub write-names-smallest : (s : Shape) (cells : List ℕ) (room : ℕ) → writeReport s cells room .number ≡ 5
+    → Smallest (isWide s) 0 (take (2 ^ s .k) cells) (writeReport s cells room .n)
+write-names-smallest s cells room five =
+    let tests = fieldTests s cells in
+    let short = shortText room (length (memoryText s cells)) ∷ [] in
+    let done = Write.written (length (memoryText s cells)) in
+    by-order 1 (refusal tests .number)
+    (λ h.
+    let is = refused-by Write.refused done tests short {b = refusal tests} refl h in
+    subst (Smallest (isWide s) 0 (take (2 ^ s .k) cells)) (ap (λ (r : Write.Report). r .n) is)
+    (five-names-smallest (λ (b : Reply). b .number) (λ (b : Reply). b .n) (λ (b : Reply). b) (reply 0 0) (λ b. (refl, refl)) refl (tableTests s (length cells))
+    (omega arith) s 0 (take (2 ^ s .k) cells)
+    (ap (λ (r : Write.Report). r .number) is ∙ five)))
+    (λ h.
+    let passed = all-passed tests (omega arith) (omega (arith, h)) in
+    let is = rest-answers Write.refused done tests short passed in
+    let late = other-passed (λ (r : Write.Report). r .number) Write.refused done 5 short (refl, tt) (λ b. refl) (ap (λ (r : Write.Report). r .number) is ∙ five) in
+    absurd (omega (arith, five, ap (λ (r : Write.Report). r .number) (done-by Write.refused done short late ∙ is))))

@@ -7,9 +7,9 @@ use native.Mathlib.Omega.{arith}
 use borrow.Author.Tests.{leb-false, lt-leb}
 use lib.Pow.{pow-mono}
 use lib.ListN.{length, take, drop, getD, replicate, length-append}
-use lib.Seq.{getD-at, set-at, take-append-seam}
+use lib.Seq.{getD-at, set-at, take-append-seam, drop-append-seam}
 use Rattle.units.specs.Inner.Good.{GoodWidths}
-use Rattle.units.specs.Refusals.{Reply, reply, tableTests, shortText}
+use Rattle.units.specs.Refusals.{Reply, tableTests, shortText}
 use Rattle.units.specs.declared.shapes.Shape.{Shape}
 use Rattle.units.proofs.Laws.Good.{good-table}
 use Rattle.units.proofs.Laws.Tests.{zero-passed, passed-parts, done-by}
@@ -18,7 +18,7 @@ use Rattle.table.specs.Inner.Good.{GoodFields}
 use Rattle.table.specs.Wide.{anyWide, fieldTests}
 use Rattle.table.proofs.Laws.First.{none-of, each-none, all-none}
 use Rattle.table.proofs.Laws.Good.{fields-good, table-size}
-use Rattle.io.specs.Digits.{digits}
+use Rattle.memory_text.specs.Write.{hexDigits}
 use Rattle.memory_text.specs.Tokens.{newline, isWhite, wordOf, Token, token, tokens}
 use Rattle.memory_text.specs.Words.{Saying, saying}
 use Rattle.memory_text.specs.Layout.{Laid, nothing, gap, white, word}
@@ -34,7 +34,7 @@ use Rattle.memory_text.proofs.Laws.Obey.{value-passes}
 -- the tokens of lines: one a line
 lineTokens : ℕ → ℕ → List ℕ → List Token
 lineTokens at count [] = []
-lineTokens at count (f ∷ fs) = token at (digits 16 count f) ∷ lineTokens (at + length (digits 16 count f) + 1) count fs
+lineTokens at count (f ∷ fs) = token at (hexDigits count f) ∷ lineTokens (at + length (hexDigits count f) + 1) count fs
 
 laid-word : (at : ℕ) (w text : List ℕ) (ts : List Token) → 0 < length w → wordOf (w ++ text) ≡ w → Laid (at + length w) text ts → Laid at (w ++ text) (token at w ∷ ts)
 laid-word at [] text ts some e laid = absurd (omega arith)
@@ -44,9 +44,9 @@ lines-laid : (at count : ℕ) (fs : List ℕ) → 0 < count → Laid at (linesOf
 unfolding linesOf lineTokens isWhite
 lines-laid at count [] some = nothing at
 lines-laid at count (f ∷ fs) some =
-    let w = digits 16 count f in
+    let w = hexDigits count f in
     rw (append-assoc w (newline ∷ []) (linesOf count fs))
-    (laid-word at w (newline ∷ linesOf count fs) (lineTokens (at + length w + 1) count fs) (rw (length-digits 16 count f) some)
+    (laid-word at w (newline ∷ linesOf count fs) (lineTokens (at + length w + 1) count fs) (rw (length-digits count f) some)
     (digits-then-newline w (linesOf count fs) (digits-go-on count f))
     (gap (at + length w) (newline ∷ []) (linesOf count fs) _ (white newline refl) (lines-laid (at + length w + 1) count fs some)))
 
@@ -66,10 +66,10 @@ module _ (s : Shape) (g : GoodWidths s) where
 
   -- so its line says the field
   line-says : (at f : ℕ) → isWide s f ≡ false
-      → saying (token at (digits 16 (digitCount s) f)) ≡ record { offset = at; formed = true; address = false; value = f }
+      → saying (token at (hexDigits (digitCount s) f)) ≡ record { offset = at; formed = true; address = false; value = f }
   line-says at f narrow =
       let numeral = digits-are-numeral (digitCount s) f some-digits in
-      let value = numeral-is-value (digits 16 (digitCount s) f) numeral in
+      let value = numeral-is-value (hexDigits (digitCount s) f) numeral in
       rw (value .0, value .1, numeral, digits-show (digitCount s) f (fits f narrow)) refl
 
   -- and the lines of fields give the cells one after the other
@@ -79,20 +79,20 @@ module _ (s : Shape) (g : GoodWidths s) where
   lines-stored done [] at size narrow = refl
   lines-stored done (f ∷ fs) at size narrow =
       let narrows = none-of (isWide s) f fs narrow in
-      let t = saying (token at (digits 16 (digitCount s) f)) in
+      let t = saying (token at (hexDigits (digitCount s) f)) in
       let says = line-says at f (narrows .0) in
       let value = ap (λ (x : Saying). x .value) says in
       let left = replicate (length fs) missing in
       let cells = done ++ (missing ∷ left) in
       let one-more : suc (length done) ≡ length (done ++ (f ∷ [])) = omega (arith, length-append done (f ∷ [])) in
-      let ts = lineTokens (at + length (digits 16 (digitCount s) f) + 1) (digitCount s) fs in
+      let ts = lineTokens (at + length (hexDigits (digitCount s) f) + 1) (digitCount s) fs in
       value-passes s (length done) cells t (ap (λ (x : Saying). x .formed) says) (ap (λ (x : Saying). x .address) says)
       (lt-leb (2 ^ s .k) (length done) (omega arith)) (ap (isWide s) value ∙ narrows .0)
       (is-missing _ (getD-at done missing left 0 (length done) refl))
       (obeyed s (nextAddress (length done) t) (nextCells (length done) cells t) ts)
       ∙ ap (λ (x : Saying). obeyed s (nextAddress (length done) x) (nextCells (length done) cells x) ts) says
       ∙ ap₂ (λ (a : ℕ) (cs : List ℕ). obeyed s a cs ts) one-more (set-at done missing left f (length done) refl ∙ sym (append-assoc done (f ∷ []) left))
-      ∙ lines-stored (done ++ (f ∷ [])) fs (at + length (digits 16 (digitCount s) f) + 1) (omega (arith, one-more)) (narrows .1)
+      ∙ lines-stored (done ++ (f ∷ [])) fs (at + length (hexDigits (digitCount s) f) + 1) (omega (arith, one-more)) (narrows .1)
       ∙ ap ended (append-assoc done (f ∷ []) fs)
 
 -- a table of good fields, written and read
@@ -117,7 +117,7 @@ module _ (s : Shape) (cells : List ℕ) (good : GoodFields s cells) where
 
 -- what comes of a text that is read into lent cells: it is done, the table's cells are those fields, and the others are as they were
 pub record ReadsAs (s : Shape) (text fields lent : List ℕ) : Type 0 where
-  pub done : readReport s text (length lent) ≡ Read.refused (reply 0 0)
+  pub done : readReport s text (length lent) ≡ Read.done
   pub cells : readCells s text lent ≡ fields ++ drop (2 ^ s .k) lent
 
 text-reads : (s : Shape) (cells lent : List ℕ) → GoodFields s cells → 2 ^ s .k ≤ length lent → ReadsAs s (memoryText s cells) (take (2 ^ s .k) cells) lent
@@ -129,16 +129,28 @@ text-reads s cells lent good enough =
       cells = sym (done-by (λ (_ : Reply). lent) _ (tableTests s (length lent)) tests) ∙ ap (λ (r : Read.Reading). leftBy s r lent) is;
     }
 
--- the text is what the writer leaves, up to the length that it gives; the cells may be any
-pub written-reads-back : (s : Shape) (cells bytes lent : List ℕ) → writeReport s cells (length bytes) .number ≡ 0 → 2 ^ s .k ≤ length lent
-    → ReadsAs s (take (writeReport s cells (length bytes) .length) (writtenBytes s cells bytes)) (take (2 ^ s .k) cells) lent
-written-reads-back s cells bytes lent done enough =
+-- what the writer leaves: up to the length that it gives, the text of a table of good fields. "bytes past the text stay"
+pub record Wrote (s : Shape) (cells bytes : List ℕ) : Type 0 where
+  pub good : GoodFields s cells
+  pub text : take (writeReport s cells (length bytes) .length) (writtenBytes s cells bytes) ≡ memoryText s cells
+  pub past : drop (writeReport s cells (length bytes) .length) (writtenBytes s cells bytes) ≡ drop (writeReport s cells (length bytes) .length) bytes
+
+pub done-wrote : (s : Shape) (cells bytes : List ℕ) → writeReport s cells (length bytes) .number ≡ 0 → Wrote s cells bytes
+done-wrote s cells bytes done =
     let tests = writeTests s cells (length bytes) in
     let text = memoryText s cells in
     let passed = zero-passed (λ (r : Write.Report). r .number) Write.refused (Write.written (length text)) tests (omega arith) (λ b. refl) refl done in
-    let good = fields-good (passed-parts (fieldTests s cells) (shortText (length bytes) (length text) ∷ []) passed .0) in
-    let long : writeReport s cells (length bytes) .length ≡ length text =
-    sym (ap (λ (r : Write.Report). r .length) (done-by Write.refused (Write.written (length text)) tests passed)) in
-    let bytes-are = sym (done-by (λ (_ : Reply). bytes) (text ++ drop (length text) bytes) tests passed) in
-    let same : take (writeReport s cells (length bytes) .length) (writtenBytes s cells bytes) ≡ text = ap₂ take long bytes-are ∙ take-append-seam text (drop (length text) bytes) in
-    rw same (text-reads s cells lent good enough)
+    let long = sym (ap (λ (r : Write.Report). r .length) (done-by Write.refused (Write.written (length text)) tests passed)) in
+    let left = sym (done-by (λ (_ : Reply). bytes) (text ++ drop (length text) bytes) tests passed) in
+    record {
+      good = fields-good (passed-parts (fieldTests s cells) (shortText (length bytes) (length text) ∷ []) passed .0);
+      text = ap₂ take long left ∙ take-append-seam text (drop (length text) bytes);
+      past = ap₂ drop long left ∙ drop-append-seam text (drop (length text) bytes) ∙ ap (λ (n : ℕ). drop n bytes) (sym long);
+    }
+
+-- so it is read back, into any cells
+pub written-reads-back : (s : Shape) (cells bytes lent : List ℕ) → writeReport s cells (length bytes) .number ≡ 0 → 2 ^ s .k ≤ length lent
+    → ReadsAs s (take (writeReport s cells (length bytes) .length) (writtenBytes s cells bytes)) (take (2 ^ s .k) cells) lent
+written-reads-back s cells bytes lent done enough =
+    let wrote = done-wrote s cells bytes done in
+    rw (wrote .text) (text-reads s cells lent (wrote .good) enough)

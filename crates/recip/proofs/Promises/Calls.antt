@@ -15,7 +15,7 @@
 --     bank-of-shown                        the survey of a bank in its table is that of the bank shown
 --     check-names-first-failing, not-best-larger    the check names the first entry that is not best
 --     first-is-smallest, and of the reports check-names-smallest, survey-names-smallest, survey-bank-names-smallest,
---     survey-bank-of-names-smallest        5 names the smallest n of an over-wide field
+--     survey-bank-of-names-smallest, write-names-smallest    5 names the smallest n of an over-wide field
 --     survey-past-table, bank-past-bank, bank-of-past-bank, check-past-table, shown-past-table, show-bank-number-past-table,
 --     build-number-past-table, built-past-table, build-bank-number-past-table, bank-built-past-table
 --                                          "Cells past the table change no answer and keep their values."
@@ -24,9 +24,10 @@
 --     worst-bounds-error, worst-is-least-bound    a fraction bounds the error at every x iff the worst error is at most that
 --     nearest-is-nearest                   "Nearest is worked out exactly": no whole number is nearer
 --     written-reads-back                   "Read back, a written table is the same table": for every table of good fields, into any cells
---     done-gives-all                       a reading that is done has every cell given exactly once, and the cells are those values
+--     done-wrote                           what the writer leaves: the text up to the length that it gives, and "bytes past the text stay"
+--     done-gives-all, done-leaves-fields   a reading that is done has every cell given exactly once, and the cells are those values
 --     lacking-names-smallest               "11 gives the smallest missing n": it is not given, and each one before it is, once
---     laid-out, gap-passes                 what the tokens of a text are, wherever white space and comments stand between them
+--     every-text-laid, laid-out, gap-passes    what the tokens of a text are, wherever white space and comments stand between them
 --     same-words-read-alike                and these change nothing but offsets
 --     read-number-past-table, read-cells-past-table, write-number-past-table, written-past-table    cells past the table, of memory texts
 pub use Rattle.entry.proofs.Laws.Everywhere.{error-above-low, error-at-most-high, high-reached, low-approached, worst-bounds-error, worst-is-least-bound}
@@ -47,7 +48,10 @@ pub use Rattle.survey.proofs.Laws.Shown.{bank-of-shown}
 pub use Rattle.verdict.proofs.Laws.Finding.{check-names-first-failing, check-names-smallest, not-best-larger}
 pub use Rattle.verdict.proofs.Laws.Verdict.{check-past-table}
 pub use Rattle.memory_text.proofs.Laws.Alike.{Alike, same-words-read-alike}
+pub use Rattle.memory_text.proofs.Laws.Every.{every-text-laid}
 pub use Rattle.memory_text.proofs.Laws.Gifts.{GivesAll, done-gives-all, NamesMissing, lacking-names-smallest}
 pub use Rattle.memory_text.proofs.Laws.Layout.{gap-passes, laid-out}
+pub use Rattle.memory_text.proofs.Laws.Leaves.{done-leaves-fields}
 pub use Rattle.memory_text.proofs.Laws.Past.{read-number-past-table, read-cells-past-table, write-number-past-table, written-past-table}
-pub use Rattle.memory_text.proofs.Laws.RoundTrip.{ReadsAs, written-reads-back}
+pub use Rattle.memory_text.proofs.Laws.RoundTrip.{Wrote, done-wrote, ReadsAs, written-reads-back}
+pub use Rattle.memory_text.proofs.Laws.Report.{write-names-smallest}

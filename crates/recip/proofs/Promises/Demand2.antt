@@ -37,6 +37,7 @@ use Rattle.verdict.proofs.Laws.Scan.{scan-number}
 pub use Rattle.table.proofs.Laws.Built.{built-reaches-least, built-entry, bank-built-reaches-least, bank-built-entry}
 pub use Rattle.verdict.proofs.Laws.Verdict.{yes-exactly-if-best}
 pub use Rattle.verdict.proofs.Laws.Built.{built-passes}
+pub use Rattle.memory_text.proofs.Laws.Number.{textTests, readTests, read-tests-numbered, read-memory-number, placeOf, read-memory-place}
 
 -- at every x: what bounds the error of some entry at every x of an interval bounds that of the entry built
 pub built-bound-is-least : (s : Shape) (cells : List ℕ) → GoodTable s (length cells) → (n : ℕ) → n < 2 ^ s .k
@@ -71,7 +72,8 @@ refused-has-its-reason [] h = absurd (omega arith)
 refused-has-its-reason (t ∷ ts) h = by-first t ts (t .holds) refl (refused-has-its-reason ts) h
 
 -- The number that a call answers is that of its tests, so the three theorems above speak of every call. Build, Build a bank and Show a
--- bank's companion answer `refusal` of their tests itself.
+-- bank's companion answer `refusal` of their tests itself. Those of Read memory are its own and after them those of each token in order, and
+-- at the end that of a missing cell (`readTests`); the place that it names is that of the first which holds (`read-memory-place`).
 pub entry-error-number : (s : Shape) (n f : ℕ) → error-specs.entryReport s n f .number ≡ refusal (error-specs.entryTests s n f) .number
 entry-error-number s n f =
     answer-number (λ (r : error-specs.Report). r .number) error-specs.refused _ (error-specs.entryTests s n f) (λ b. refl) refl

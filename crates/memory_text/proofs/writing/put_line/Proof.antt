@@ -5,7 +5,7 @@ use mathlib.Core.Path.{_≡_, _∙_}
 use native.Mathlib.Omega.{arith}
 use borrow.Author.Needs.{needs}
 use lib.ListN.{length, drop, length-set}
-use Rattle.io.specs.Digits.{digits}
+use Rattle.memory_text.specs.Write.{hexDigits}
 use Rattle.memory_text.specs.Write.{lineOf}
 use Rattle.memory_text.proofs.Laws.Lines.{newline-put, digit-put}
 use Rattle.memory_text.proofs.writing.put_line.Statement.{statement}
@@ -13,7 +13,7 @@ use Rattle.memory_text.proofs.writing.put_line.Tie as tie
 
 abbrev Inv-loop : tie.InvT-loop
 Inv-loop f line₀ left₀ rest₀ line left rest =
-    (left ≤ left₀) × ((length line ≡ left₀ + 1) × (digits 16 left rest ++ drop left line ≡ lineOf left₀ f))
+    (left ≤ left₀) × ((length line ≡ left₀ + 1) × (hexDigits left rest ++ drop left line ≡ lineOf left₀ f))
 
 abbrev μ-loop : tie.MeasureT-loop
 μ-loop f line₀ left₀ rest₀ line left rest = left
@@ -28,7 +28,7 @@ loop-again c =
     let here = c .before .before .loop in
     let start = c .before .before .before .before in
     let put = digit-put (here .line) (here .left) (here .rest) (omega arith) (omega (arith, here .inv .0, here .inv .1 .0)) in
-    (omega (arith, here .inv .0), (simp length-set (here .inv .1 .0), rw (c .glyph .ensures) put ∙ here .inv .1 .1))
+    (omega (arith, here .inv .0), (simp length-set (here .inv .1 .0), rw (c .hex-digit .ensures) put ∙ here .inv .1 .1))
 
 returns : tie.Need-returns Inv-loop μ-loop
 returns c =

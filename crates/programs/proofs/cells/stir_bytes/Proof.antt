@@ -1,9 +1,9 @@
--- `cases_memory::stir_bytes` ends: what is left of the bytes gets less by one with each turn. Assumes nothing.
+-- `programs::stir_bytes` ends: what is left of the bytes gets less by one with each turn. Assumes nothing.
 use Prim.Native.Nat.{_-_, _≤_}
 use borrow.Author.Needs.{needs}
 use lib.ListN.{length}
-use Rattle.cases_memory.proofs.stir_bytes.Statement.{statement}
-use Rattle.cases_memory.proofs.stir_bytes.Tie as tie
+use Rattle.programs.proofs.cells.stir_bytes.Statement.{statement}
+use Rattle.programs.proofs.cells.stir_bytes.Tie as tie
 
 pub stir-bytes-spec : {M : Type 1} → statement M
 stir-bytes-spec =

@@ -1,9 +1,9 @@
--- `cases_memory::pick` gives a number below n. Assumes nothing.
+-- `programs::pick` gives a number below n. Assumes nothing.
 use native.Mathlib.Nat.{mod-lt}
 use native.Mathlib.Omega.{arith}
 use borrow.Author.Needs.{needs}
-use Rattle.cases_memory.proofs.pick.Statement.{statement}
-use Rattle.cases_memory.proofs.pick.Tie as tie
+use Rattle.programs.proofs.drawing.pick.Statement.{statement}
+use Rattle.programs.proofs.drawing.pick.Tie as tie
 
 returns : tie.Need-returns
 returns c = mod-lt _ (omega arith)

@@ -1,0 +1,2 @@
+-- What the proofs of this crate cite.
+pub mod Laws
