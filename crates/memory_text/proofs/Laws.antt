@@ -1,7 +1,3 @@
-pub mod Bytes
-pub mod Places
-pub mod Numerals
-pub mod Next
 pub mod Given
 pub mod Obey
 pub mod Reached

@@ -5,8 +5,8 @@ use mathlib.Core.List.{List, [], _∷_}
 use mathlib.Core.Path.{_≡_}
 use lib.Dec.{eqb}
 use lib.ListN.{length, getD}
-use Rattle.memory_text.specs.Tokens.{Token, tokens}
-use Rattle.memory_text.specs.Words.{saying}
+use Rattle.memory_tokens.specs.Tokens.{Token, tokens}
+use Rattle.memory_tokens.specs.Words.{saying}
 
 -- a value, and the cell that it is for
 pub record Gift : Type 0 where

@@ -6,7 +6,7 @@ use mathlib.Core.Path.{_≡_}
 use lib.Dec.{eqb}
 use lib.ListN.{length}
 use Rattle.table.specs.First.{anyOf}
-use Rattle.memory_text.specs.Tokens.{newline, star, slash, isWhite, wordOf, Token, token, unfinished, tokens}
+use Rattle.memory_tokens.specs.Tokens.{newline, star, slash, isWhite, wordOf, Token, token, unfinished, tokens}
 
 -- whether a newline is among the bytes of a // comment
 abbrev pub hasNewline : List ℕ → Bool

@@ -1,5 +1,3 @@
-pub mod Tokens
-pub mod Words
 pub mod Read
 pub mod Write
 pub mod Layout

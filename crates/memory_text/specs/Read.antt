@@ -8,8 +8,8 @@ use Rattle.units.specs.Refusals.{Reply, reply, Test, test, answer, refusalNumbe
 use Rattle.units.specs.declared.shapes.Shape.{Shape}
 use Rattle.entry.specs.Fields.{isWide}
 use Rattle.table.specs.First.{anyOf, firstOf}
-use Rattle.memory_text.specs.Tokens.{Token, tokens}
-use Rattle.memory_text.specs.Words.{Saying, saying}
+use Rattle.memory_tokens.specs.Tokens.{Token, tokens}
+use Rattle.memory_tokens.specs.Words.{Saying, saying}
 use Rattle.memory_text.specs.declared.reading.ReadAnswer.{ReadAnswer}
 use Rattle.memory_text.specs.declared.reading.ReadAnswer.the-variants.{Done, BadToken, PastTable, TooWide, GivenTwice, Missing, Refused}
 

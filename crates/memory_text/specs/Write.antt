@@ -7,7 +7,7 @@ use lib.ListN.{length, take, drop}
 use Rattle.units.specs.Refusals.{Reply, reply, Test, answer, refusalNumber, shortText}
 use Rattle.units.specs.declared.shapes.Shape.{Shape}
 use Rattle.table.specs.Wide.{fieldTests}
-use Rattle.memory_text.specs.Tokens.{newline}
+use Rattle.memory_tokens.specs.Tokens.{newline}
 use Rattle.memory_text.specs.declared.writing.WriteAnswer.{WriteAnswer}
 use Rattle.memory_text.specs.declared.writing.WriteAnswer.the-variants.{Written, TooWide, Refused}
 

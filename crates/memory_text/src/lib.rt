@@ -1,10 +1,6 @@
 // Memory text, as Verilog's $readmemh reads it: a table written as text, and read back from it.
-mod bytes;
-mod comments;
-mod numerals;
 mod reading;
 mod storing;
-mod tokens;
 mod writing;
 
 pub use reading::ReadAnswer;

@@ -10,8 +10,8 @@ ghost use Rattle.memory_text.specs.Inner.Steps.{countGiven, isDone, Came
 use crate::storing::Progress;
 use crate::storing::Step;
 use crate::storing::obey;
-use crate::tokens::Next;
-use crate::tokens::next_token;
+use memory_tokens::Next;
+use memory_tokens::next_token;
 use units::Interval;
 use units::Offset;
 use units::Outcome;

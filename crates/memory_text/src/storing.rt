@@ -3,11 +3,11 @@ ghost use mathlib.Core.Path.{_≡_};
 ghost use Prim.Native.Nat.{_≤_, _^_};
 ghost use lib.ListN.{length};
 ghost use Rattle.units.specs.Inner.Good.{GoodWidths};
-ghost use Rattle.memory_text.specs.Inner.Places.{says};
+ghost use Rattle.memory_tokens.specs.Inner.Places.{says};
 ghost use Rattle.memory_text.specs.Inner.Steps.{Obeyed};
 use crate::reading::ReadAnswer;
-use crate::tokens::Word;
 use entry::fields_of;
+use memory_tokens::Word;
 use units::Shape;
 
 // How far a reading has come: where the next value goes, and how many cells were given.

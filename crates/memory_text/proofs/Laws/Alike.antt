@@ -7,8 +7,8 @@ use native.Mathlib.Omega.{arith}
 use lib.ListN.{length, drop, getD, replicate}
 use Rattle.units.specs.Refusals.{reply, test, answer}
 use Rattle.units.specs.declared.shapes.Shape.{Shape}
-use Rattle.memory_text.specs.Tokens.{Token, token, tokens}
-use Rattle.memory_text.specs.Words.{saying}
+use Rattle.memory_tokens.specs.Tokens.{Token, token, tokens}
+use Rattle.memory_tokens.specs.Words.{saying}
 use Rattle.memory_text.specs.Read.{Reading, missing, nextAddress, nextCells, stopped, obeyed, reading}
 use Rattle.memory_text.specs.Layout.{words}
 

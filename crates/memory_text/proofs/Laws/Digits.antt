@@ -10,10 +10,10 @@ use lib.ListN.{length, length-append}
 use lib.Pow.{shr-lt}
 use Rattle.units.proofs.Laws.Order.{by-order}
 use Rattle.memory_text.specs.Write.{hexDigit, hexDigits}
-use Rattle.memory_text.specs.Tokens.{newline, isWhite, ends, wordOf}
-use Rattle.memory_text.specs.Words.{digitOf, isDigit, underscore, atSign, goesOn, isNumeral, shows, isAddress, numeralOf}
-use Rattle.memory_text.proofs.Laws.Bytes.{both, not-that, digit-goes-on, underscore-goes-on}
-use Rattle.memory_text.proofs.Laws.Numerals.{shows-digit}
+use Rattle.memory_tokens.specs.Tokens.{newline, isWhite, ends, wordOf}
+use Rattle.memory_tokens.specs.Words.{digitOf, isDigit, underscore, atSign, goesOn, isNumeral, shows, isAddress, numeralOf}
+use Rattle.memory_tokens.proofs.Laws.Bytes.{both, not-that, digit-goes-on, underscore-goes-on}
+use Rattle.memory_tokens.proofs.Laws.Numerals.{shows-digit}
 
 pub length-digits : (count f : ℕ) → length (hexDigits count f) ≡ count
 length-digits zero f = refl

@@ -8,11 +8,11 @@ use borrow.Author.Tests.{eqb-true}
 use lib.Dec.{eqb}
 use lib.ListN.{length, length-append}
 use Rattle.table.specs.First.{anyOf}
-use Rattle.memory_text.specs.Tokens.{newline, star, slash, isWhite, opens, ends, wordOf, Token, outside, tokensIn}
+use Rattle.memory_tokens.specs.Tokens.{newline, star, slash, isWhite, opens, ends, wordOf, Token, outside, tokensIn}
 use Rattle.memory_text.specs.Layout.{hasNewline, hasEnd, Gap, white, line, block, Laid, nothing, last-line, cut, gap, word}
-use Rattle.memory_text.proofs.Laws.Bytes.{both}
+use Rattle.memory_tokens.proofs.Laws.Bytes.{both}
 use Rattle.memory_text.proofs.Laws.Layout.{laid-out}
-use Rattle.memory_text.proofs.Laws.Places.{none-ends}
+use Rattle.memory_tokens.proofs.Laws.Places.{none-ends}
 
 -- a // comment has a newline, or ends with the text
 record Line (bs : List ℕ) : Type 0 where

@@ -14,8 +14,8 @@ use Rattle.units.specs.declared.shapes.Shape.{Shape}
 use Rattle.units.proofs.Laws.Good.{table-good}
 use Rattle.units.proofs.Laws.Tests.{Passed, other-passed, done-by}
 use Rattle.table.proofs.Laws.First.{all-none, first-is-smallest}
-use Rattle.memory_text.specs.Tokens.{Token, tokens}
-use Rattle.memory_text.specs.Words.{Saying, saying}
+use Rattle.memory_tokens.specs.Tokens.{Token, tokens}
+use Rattle.memory_tokens.specs.Words.{Saying, saying}
 use Rattle.memory_text.specs.Read.{Reading, Report, missing, isMissing, anyMissing, firstMissing, lacking, complete, missingAmong, tokenTests, nextAddress, nextCells, stopped, ended, obeyed, reading, refused, readReport}
 use Rattle.memory_text.specs.Gifts.{Gift, giftsFrom, gifts, times, Stand}
 use Rattle.memory_text.proofs.Laws.Given.{is-missing, field-given}

@@ -9,9 +9,9 @@ use lib.Dec.{leb, eqb}
 use lib.ListN.{length, drop, length-append}
 use Rattle.units.proofs.Laws.Tests.{or-false}
 use Rattle.table.proofs.Laws.First.{none-of}
-use Rattle.memory_text.specs.Tokens.{newline, star, slash, isWhite, opens, ends, wordOf, Token, token, unfinished, outside, comment, closes, tokensIn, tokens}
+use Rattle.memory_tokens.specs.Tokens.{newline, star, slash, isWhite, opens, ends, wordOf, Token, token, unfinished, outside, comment, closes, tokensIn, tokens}
 use Rattle.memory_text.specs.Layout.{hasNewline, hasEnd, Gap, white, line, block, Laid, nothing, last-line, cut, gap, word}
-use Rattle.memory_text.proofs.Laws.Places.{stays-in-token, begins-token, leaves-token}
+use Rattle.memory_tokens.proofs.Laws.Places.{stays-in-token, begins-token, leaves-token}
 
 -- tokens from a place on that is told in two ways
 from-there : (text : List ℕ) {a b : ℕ} → a ≡ b → tokensIn (outside false) a text ≡ tokensIn (outside false) b text

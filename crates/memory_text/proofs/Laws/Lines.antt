@@ -10,7 +10,7 @@ use lib.Seq.{drop-cons, drop-drop, take-at, drop-at, length-take-le}
 use Rattle.units.proofs.Laws.Lists.{drop-set}
 use Rattle.memory_text.proofs.Laws.Digits.{length-digits}
 use Rattle.memory_text.specs.Write.{hexDigit, hexDigits}
-use Rattle.memory_text.specs.Tokens.{newline}
+use Rattle.memory_tokens.specs.Tokens.{newline}
 use Rattle.memory_text.specs.Write.{lineOf, linesOf}
 
 -- the newline, at the end of a line's bytes

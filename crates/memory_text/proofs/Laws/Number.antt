@@ -8,8 +8,8 @@ use lib.ListN.{replicate}
 use Rattle.units.specs.Refusals.{Reply, reply, Test, answer, refusal, tableTests}
 use Rattle.units.specs.declared.shapes.Shape.{Shape}
 use Rattle.units.proofs.Laws.Tests.{Numbered}
-use Rattle.memory_text.specs.Tokens.{Token, tokens}
-use Rattle.memory_text.specs.Words.{saying}
+use Rattle.memory_tokens.specs.Tokens.{Token, tokens}
+use Rattle.memory_tokens.specs.Words.{saying}
 use Rattle.memory_text.specs.Read.{Reading, Report, missing, lacking, complete, missingAmong, tokenTests, nextAddress, nextCells, stopped, obeyed, reading, refused, readReport}
 
 -- what is read off an answer is read off its tests, where what it gives when they pass is that of more tests

@@ -8,7 +8,7 @@ use lib.ListN.{getD}
 use Rattle.units.specs.Refusals.{reply, answer}
 use Rattle.units.specs.declared.shapes.Shape.{Shape}
 use Rattle.entry.specs.Fields.{isWide}
-use Rattle.memory_text.specs.Words.{Saying}
+use Rattle.memory_tokens.specs.Words.{Saying}
 use Rattle.memory_text.specs.Read.{Reading, isMissing, tokenTests, stopped}
 
 module _ (s : Shape) (address : ℕ) (cells : List ℕ) (t : Saying) (formed : t .formed ≡ true) where

@@ -16,15 +16,15 @@ use Rattle.units.specs.declared.shapes.Shape.{Shape}
 use Rattle.units.proofs.Laws.Order.{by-order}
 use Rattle.entry.specs.Fields.{fieldsEnd, isWide}
 use Rattle.entry.proofs.Laws.Fields.{fields-end-bound}
-use Rattle.memory_text.specs.Tokens.{outside}
-use Rattle.memory_text.specs.Words.{Saying, saying}
+use Rattle.memory_tokens.specs.Tokens.{outside}
+use Rattle.memory_tokens.specs.Words.{Saying, saying}
 use Rattle.memory_text.specs.Read.{Reading, missing, isMissing, tokenTests, nextAddress, nextCells, stopped, ended, obeyed, reading}
-use Rattle.memory_text.specs.Inner.Places.{tokensFrom, capped, says, cappedSaying, IsFaulty, SaysSo}
+use Rattle.memory_tokens.specs.Inner.Places.{tokensFrom, capped, says, cappedSaying, IsFaulty, SaysSo}
 use Rattle.memory_text.specs.Inner.Steps.{countGiven, Came, GoesOn, Stops}
 use Rattle.memory_text.specs.declared.reading.ReadAnswer.{ReadAnswer}
 use Rattle.memory_text.specs.declared.reading.ReadAnswer.the-variants.{BadToken}
 use Rattle.memory_text.specs.declared.storing.Progress.{Progress}
-use Rattle.memory_text.specs.declared.tokens.Word.{Word}
+use Rattle.memory_tokens.specs.declared.tokens.Word.{Word}
 use Rattle.memory_text.proofs.Laws.Given.{count-none}
 
 -- a number that is capped fails the same tests

@@ -18,8 +18,8 @@ use Rattle.entry.specs.Fields.{isWide}
 use Rattle.table.specs.Wide.{fieldTests}
 use Rattle.table.proofs.Laws.First.{Smallest}
 use Rattle.table.proofs.Laws.Wide.{five-names-smallest}
-use Rattle.memory_text.specs.Tokens.{Token, tokens}
-use Rattle.memory_text.specs.Words.{saying}
+use Rattle.memory_tokens.specs.Tokens.{Token, tokens}
+use Rattle.memory_tokens.specs.Words.{saying}
 use Rattle.memory_text.specs.Read as Read
 use Rattle.memory_text.specs.Read.{Reading, tokenTests, nextAddress, nextCells, stopped, lacking, complete, missingAmong, obeyed, reading, readReport}
 use Rattle.memory_text.specs.Write as Write

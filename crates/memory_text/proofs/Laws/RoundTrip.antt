@@ -19,8 +19,8 @@ use Rattle.table.specs.Wide.{anyWide, fieldTests}
 use Rattle.table.proofs.Laws.First.{none-of, each-none, all-none}
 use Rattle.table.proofs.Laws.Good.{fields-good, table-size}
 use Rattle.memory_text.specs.Write.{hexDigits}
-use Rattle.memory_text.specs.Tokens.{newline, isWhite, wordOf, Token, token, tokens}
-use Rattle.memory_text.specs.Words.{Saying, saying}
+use Rattle.memory_tokens.specs.Tokens.{newline, isWhite, wordOf, Token, token, tokens}
+use Rattle.memory_tokens.specs.Words.{Saying, saying}
 use Rattle.memory_text.specs.Layout.{Laid, nothing, gap, white, word}
 use Rattle.memory_text.specs.Read as Read
 use Rattle.memory_text.specs.Read.{missing, isMissing, anyMissing, missingAmong, lacking, complete, ended, obeyed, reading, nextAddress, nextCells, leftBy, readReport, readCells}

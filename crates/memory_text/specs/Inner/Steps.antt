@@ -5,7 +5,7 @@ use mathlib.Core.List.{List, [], _∷_}
 use mathlib.Core.Path.{_≡_}
 use Rattle.units.specs.Refusals.{answer}
 use Rattle.units.specs.declared.shapes.Shape.{Shape}
-use Rattle.memory_text.specs.Words.{Saying}
+use Rattle.memory_tokens.specs.Words.{Saying}
 use Rattle.memory_text.specs.Read.{Reading, reported, isMissing, tokenTests, nextAddress, nextCells, stopped}
 use Rattle.memory_text.specs.declared.reading.ReadAnswer.{ReadAnswer}
 use Rattle.memory_text.specs.declared.reading.ReadAnswer.the-variants.{Done, BadToken, PastTable, TooWide, GivenTwice, Missing, Refused}

@@ -7,8 +7,8 @@ use Rattle.units.specs.Refusals.{reply, answer, outside}
 use Rattle.units.specs.Shapes.{shape}
 use Rattle.entry.specs.Fields.{fieldsEnd, isWide}
 use Rattle.table.specs.First.{anyOf, firstOf}
-use Rattle.memory_text.specs.Tokens.{isWhite, opens, ends, wordOf, closes, tokensIn}
-use Rattle.memory_text.specs.Words.{digitOf, isDigit, goesOn, isNumeral, shows, isAddress, numeralOf}
+use Rattle.memory_tokens.specs.Tokens.{isWhite, opens, ends, wordOf, closes, tokensIn}
+use Rattle.memory_tokens.specs.Words.{digitOf, isDigit, goesOn, isNumeral, shows, isAddress, numeralOf}
 use Rattle.memory_text.specs.Read.{Reading, stopped, lacking, complete, isMissing, obeyed, reading}
 use Rattle.memory_text.specs.Write.{linesOf, memoryText}
 

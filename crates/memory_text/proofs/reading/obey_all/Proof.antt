@@ -6,10 +6,10 @@ use borrow.Author.Needs.{needs}
 use lib.ListN.{length, length-replicate}
 use lib.Pow.{pow-mono}
 use Rattle.memory_text.specs.Read.{missing}
-use Rattle.memory_text.specs.Words.{Saying}
-use Rattle.memory_text.specs.Inner.Places.{says, NextToken, SaysSo}
+use Rattle.memory_tokens.specs.Words.{Saying}
+use Rattle.memory_tokens.specs.Inner.Places.{says, NextToken, SaysSo}
 use Rattle.memory_text.specs.Inner.Steps.{Obeyed}
-use Rattle.memory_text.specs.declared.tokens.Next.the-variants.{Says}
+use Rattle.memory_tokens.specs.declared.tokens.Next.the-variants.{Says}
 use Rattle.memory_text.proofs.Laws.Given.{count-within}
 use Rattle.memory_text.proofs.Laws.Reached.{Reached, reached-starts, reached-ends, reached-bad, reached-stops, reached-on}
 use Rattle.memory_text.proofs.reading.obey_all.Statement.{statement}

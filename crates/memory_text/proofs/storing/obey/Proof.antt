@@ -9,7 +9,7 @@ use borrow.Author.Needs.{needs}
 use borrow.Author.Tests.{le-leb, lt-leb}
 use Rattle.entry.specs.Fields.{isWide}
 use Rattle.entry.proofs.Laws.Fields.{fields-end-within}
-use Rattle.memory_text.specs.Inner.Places.{says}
+use Rattle.memory_tokens.specs.Inner.Places.{says}
 use Rattle.memory_text.proofs.Laws.Given.{is-given, is-missing, count-set}
 use Rattle.memory_text.proofs.Laws.Obey.{address-past, address-passes, value-past, value-wide, value-twice, value-passes}
 use Rattle.memory_text.proofs.storing.obey.Statement.{statement}

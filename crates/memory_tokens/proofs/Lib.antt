@@ -1,0 +1,2 @@
+-- What the proofs of this crate and of those above it cite.
+pub mod Laws

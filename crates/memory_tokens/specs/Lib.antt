@@ -1,0 +1,3 @@
+pub mod Tokens
+pub mod Words
+pub mod Inner
