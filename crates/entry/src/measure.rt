@@ -49,16 +49,19 @@ fn difference(a: u64, b: u64) -> Error
     Error((a as i64) - (b as i64))
 }
 
-// Low and high each have a product of their own, as document 01 writes them.
+// One multiplication: (i+1)·j is i·j and j more.
 fn products_of(shape: Shape, n: Interval, j: Entry) -> Products
     requires { ⌜ GoodEntry shape (n .0) (j .0) ⌝ }
     ensures { λ r. ⌜ r ≡ record { unit = unit shape; left = iOf shape (n .0) * j .0; right = (iOf shape (n .0) + 1) * j .0 } ⌝ }
 {
     let i = left_end(shape, n).0 as u64;
+    let value = j.0 as u64;
+    let left = i * value;
+    let right = left + value;
     Products {
         unit: unit_of(shape),
-        left: i * j.0 as u64,
-        right: (i + 1) * j.0 as u64,
+        left: left,
+        right: right,
     }
 }
 

@@ -1,11 +1,11 @@
 -- Differences of whole numbers, with their sign. Such a number is n above zero where the first is n more than the second, and below
 -- it where the second is more; so products and orders of differences are sums and products of whole numbers. Assumes nothing.
 use Prim.Native.Nat.{ℕ, zero, suc, _+_, _-_, _*_, _≤_, _<_}
-use mathlib.Core.Path.{_≡_, ap}
+use mathlib.Core.Path.{_≡_, ap, sym, _∙_}
 use native.Mathlib.Omega.{arith}
 use borrow.Author.Tests.{lt-ltb, le-ltb}
 use lib.Dec.{leb→le, le→leb, lt→ltb}
-use lib.IntN.{ℤ, pos, negsuc, negℤ, _-ℤ_, _*ℤ_}
+use lib.IntN.{ℤ, pos, negsuc, negℤ, _+ℤ_, _-ℤ_, _*ℤ_, +ℤ-assoc, +ℤ-comm, negℤ-+ℤ, +ℤ-negℤ-cancel, -ℤ-+ℤ-cancel}
 use lib.Signed.{_≤ℤ_, _<ℤ_, leZ-yes, ltZ-yes}
 use Rattle.units.proofs.Laws.Order.{by-order}
 
@@ -61,3 +61,12 @@ module _ (a b c d e f : ℕ) where
 
   pub products-below : a * e + d * f < c * f + b * e → ((pos a -ℤ pos b) *ℤ pos e) <ℤ ((pos c -ℤ pos d) *ℤ pos f)
   products-below = below (times (difference a b) e) (times (difference c d) f)
+
+-- what is less by a sum is less by both
+pub less-sum : (a b c : ℕ) → pos a -ℤ pos (b + c) ≡ pos a -ℤ pos b -ℤ pos c
+less-sum a b c = ap (λ x. pos a +ℤ x) (negℤ-+ℤ (pos b) (pos c)) ∙ sym (+ℤ-assoc (pos a) (negℤ (pos b)) (negℤ (pos c)))
+
+-- y and what is z less differ by z
+pub less-by : (y z : ℤ) → y -ℤ (y -ℤ z) ≡ z
+less-by y z =
+    ap (λ x. x -ℤ (y -ℤ z)) (sym (-ℤ-+ℤ-cancel y z) ∙ +ℤ-comm (y -ℤ z) z) ∙ +ℤ-negℤ-cancel z (y -ℤ z)

@@ -21,6 +21,7 @@
 --                                          "Cells past the table change no answer and keep their values."
 --     error-above-low, error-at-most-high, high-reached, low-approached    "Over interval n it runs from low (not reached) to high
 --                                          (reached at the left end)", at every x
+--     high-less-low                        "An entry's two errors differ by exactly j"
 --     worst-bounds-error, worst-is-least-bound    a fraction bounds the error at every x iff the worst error is at most that
 --     nearest-is-nearest                   "Nearest is worked out exactly": no whole number is nearer
 --     written-reads-back                   "Read back, a written table is the same table": for every table of good fields, into any cells
@@ -32,6 +33,7 @@
 --     read-number-past-table, read-cells-past-table, write-number-past-table, written-past-table    cells past the table, of memory texts
 pub use Rattle.entry.proofs.Laws.Everywhere.{error-above-low, error-at-most-high, high-reached, low-approached, worst-bounds-error, worst-is-least-bound}
 pub use Rattle.entry.proofs.Laws.Nearest.{nearest-is-nearest}
+pub use Rattle.entry.proofs.Laws.Products.{high-less-low}
 pub use Rattle.table.proofs.Laws.AnyOrder.{banks-in-any-order}
 pub use Rattle.table.proofs.Laws.Built.{length-built, bank-built-keeps-before, bank-built-keeps-after, length-bank-built}
 pub use Rattle.table.proofs.Laws.Found.{found-error-within}
