@@ -63,25 +63,25 @@ static void same(const char *call, const void *a, const void *b, size_t size) {
     exit(1);
 }
 
+// Says what is counted, and counts a call of each side. It takes k and m from where it stands, and the
+// call has w for the side.
+#define COUNT(name, many, each, call)                                      \
+    for (int w = 0; w < WHO; w++) {                                        \
+        printf("%s %u %u %u %s %s\n", name, k, m, many, each, who[w]);     \
+        mark();                                                            \
+        call;                                                              \
+        mark();                                                            \
+    }
+
 // A call that reads the table, and answers so many values.
 static void reads(const char *name, read_call *volatile *call, uint32_t k, uint32_t m, size_t values) {
-    for (int w = 0; w < WHO; w++) {
-        printf("%s %u %u %u entry %s\n", name, k, m, 1u << k, who[w]);
-        mark();
-        call[w](k, m, table[PLAIN], CELLS, answer[w]);
-        mark();
-    }
+    COUNT(name, 1u << k, "entry", call[w](k, m, table[PLAIN], CELLS, answer[w]));
     same(name, answer[PROVED], answer[PLAIN], values * sizeof(uint64_t));
 }
 
 static void widths(uint32_t k, uint32_t m) {
     uint32_t number[WHO];
-    for (int w = 0; w < WHO; w++) {
-        printf("build %u %u %u entry %s\n", k, m, 1u << k, who[w]);
-        mark();
-        number[w] = build[w](k, m, table[w], CELLS);
-        mark();
-    }
+    COUNT("build", 1u << k, "entry", number[w] = build[w](k, m, table[w], CELLS));
     same("build", &number[PROVED], &number[PLAIN], sizeof number[PLAIN]);
     same("build", table[PROVED], table[PLAIN], sizeof table[PLAIN]);
     reads("check", check, k, m, 5);
@@ -90,12 +90,7 @@ static void widths(uint32_t k, uint32_t m) {
 
 // Every divisor once.
 static void look_ups(uint32_t k, uint32_t m) {
-    for (int w = 0; w < WHO; w++) {
-        printf("look_up %u %u %u call %s\n", k, m, DIVISORS, who[w]);
-        mark();
-        for (uint32_t x = 1; x <= DIVISORS; x++) look_up[w](k, m, x, table[PLAIN], CELLS, answer[w]);
-        mark();
-    }
+    COUNT("look_up", DIVISORS, "call", for (uint32_t x = 1; x <= DIVISORS; x++) look_up[w](k, m, x, table[PLAIN], CELLS, answer[w]));
     for (uint32_t x = 1; x <= DIVISORS; x++) {
         look_up[PROVED](k, m, x, table[PLAIN], CELLS, answer[PROVED]);
         look_up[PLAIN](k, m, x, table[PLAIN], CELLS, answer[PLAIN]);
@@ -105,21 +100,11 @@ static void look_ups(uint32_t k, uint32_t m) {
 
 // The memory text of the table, and the table from that text.
 static void memory(uint32_t k, uint32_t m) {
-    for (int w = 0; w < WHO; w++) {
-        printf("write %u %u %u cell %s\n", k, m, 1u << k, who[w]);
-        mark();
-        write_memory[w](k, m, table[PLAIN], CELLS, text[w], BYTES, answer[w]);
-        mark();
-    }
+    COUNT("write", 1u << k, "cell", write_memory[w](k, m, table[PLAIN], CELLS, text[w], BYTES, answer[w]));
     same("write", answer[PROVED], answer[PLAIN], 3 * sizeof(uint64_t));
     same("write", text[PROVED], text[PLAIN], sizeof text[PLAIN]);
     size_t length = answer[PLAIN][1];
-    for (int w = 0; w < WHO; w++) {
-        printf("read %u %u %u cell %s\n", k, m, 1u << k, who[w]);
-        mark();
-        read_memory[w](k, m, text[PLAIN], length, read_back[w], CELLS, answer[w]);
-        mark();
-    }
+    COUNT("read", 1u << k, "cell", read_memory[w](k, m, text[PLAIN], length, read_back[w], CELLS, answer[w]));
     same("read", answer[PROVED], answer[PLAIN], 3 * sizeof(uint64_t));
     same("read", read_back[PROVED], read_back[PLAIN], sizeof read_back[PLAIN]);
 }

@@ -3,25 +3,10 @@
 //! The order of the draws is part of the format; README.md writes it out.
 
 use crate::calls::{self, Tally};
+use crate::drawing::Generator;
 use crate::rules;
 
 pub const CALLS: u64 = 40000;
-
-/// The generator of Park and Miller (MINSTD, multiplier 48271).
-pub struct Generator {
-    state: u64,
-}
-
-impl Generator {
-    pub fn new() -> Generator {
-        Generator { state: 1 }
-    }
-
-    pub fn pick(&mut self, n: u64) -> u64 {
-        self.state = self.state * 48271 % 2147483647;
-        self.state % n
-    }
-}
 
 pub struct Drive {
     generator: Generator,
@@ -39,12 +24,7 @@ impl Drive {
     }
 
     fn width(&mut self) -> u64 {
-        match self.pick(20) {
-            0 => 0,
-            1 => 16,
-            2 => 4294967295,
-            _ => 1 + self.pick(6),
-        }
+        self.generator.width(20, 6)
     }
 
     /// The good ones are drawn so that every shift comes up.

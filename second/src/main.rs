@@ -3,6 +3,7 @@
 //! library it is compared with. See README.md.
 
 mod calls;
+mod drawing;
 #[cfg(test)]
 mod examples;
 mod hostile;

@@ -2,7 +2,7 @@
 //! pseudo-random drive reads good texts and damaged ones, and writes.
 //! The order of the draws is part of the format; README.md writes it out.
 
-use crate::hostile::Generator;
+use crate::drawing::Generator;
 use crate::memory::{self, Read, Written};
 use crate::{calls, rules};
 use std::collections::BTreeMap;
@@ -131,12 +131,7 @@ impl Drive {
     }
 
     fn width(&mut self) -> u64 {
-        match self.pick(30) {
-            0 => 0,
-            1 => 16,
-            2 => 4294967295,
-            _ => 1 + self.pick(4),
-        }
+        self.generator.width(30, 4)
     }
 
     fn lent(&mut self) -> usize {

@@ -11,6 +11,7 @@ use programs::pick;
 use programs::stir;
 use programs::stir_cells;
 use programs::text;
+use programs::width;
 use recip::CheckAnswer;
 use recip::Error;
 use recip::ErrorAnswer;
@@ -51,16 +52,6 @@ fn small(state: &mut u64, n: u64) -> u32
     pick(state, n) as u32
 }
 
-// Mostly from 1 to 6.
-fn width(state: &mut u64) -> u32 {
-    match pick(state, 20) {
-        0 => 0,
-        1 => 16,
-        2 => 4294967295,
-        _ => 1 + small(state, 6),
-    }
-}
-
 // From 1 to 65535, with every shift as often as any other.
 fn good_divisor(state: &mut u64) -> u32 {
     let y = 32768 + small(state, 32768);
@@ -80,8 +71,8 @@ fn divisor(state: &mut u64) -> u32 {
 
 fn drawn(state: &mut u64) -> Inputs {
     let op = pick(state, 10);
-    let k = width(state);
-    let m = width(state);
+    let k = width(state, 20, 6);
+    let m = width(state, 20, 6);
     let h = small(state, 8);
     let b = small(state, 70);
     let n = small(state, 70);

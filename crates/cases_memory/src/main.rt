@@ -18,6 +18,7 @@ use programs::stir;
 use programs::stir_bytes;
 use programs::stir_cells;
 use programs::text;
+use programs::width;
 use programs::zeroed;
 use recip::Outcome;
 use recip::ReadAnswer;
@@ -153,16 +154,6 @@ fn small(state: &mut u64, n: u64) -> usize
     ensures { λ r. ⌜ r < n ⌝ }
 {
     pick(state, n) as usize
-}
-
-// Mostly from 1 to 4.
-fn width(state: &mut u64) -> u32 {
-    match pick(state, 30) {
-        0 => 0,
-        1 => 16,
-        2 => 4294967295,
-        _ => 1 + small(state, 4) as u32,
-    }
 }
 
 // Mostly all 64 cells.
@@ -475,8 +466,8 @@ fn write(
 }
 
 fn drawn(state: &mut u64) -> Inputs {
-    let k = width(state);
-    let m = width(state);
+    let k = width(state, 30, 4);
+    let m = width(state, 30, 4);
     let lent = lent_cells(state);
     Inputs {
         shape: Shape::of(k, m),

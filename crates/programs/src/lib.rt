@@ -11,6 +11,7 @@ pub use cells::stir_bytes;
 pub use cells::stir_cells;
 pub use cells::zeroed;
 pub use drawing::pick;
+pub use drawing::width;
 pub use writing::column;
 pub use writing::labelled;
 pub use writing::long_column;
