@@ -225,15 +225,16 @@ fn taken(a: TallyAnswer) {
     text(b"\n");
 }
 
-// Tallies with a finding that no survey has, and any widths and next n.
-fn forged(k: u32, m: u32, next: u32, worst: u64, f: u16) {
+// Tallies with a finding that no survey has, and any widths and next n. Their side shows whether it is
+// kept: it is not the entry's where a field is taken, and not 0 where the call is refused.
+fn forged(k: u32, m: u32, next: u32, worst: u64, side: Side, f: u16) {
     let tally = Tally {
         shape: Shape::of(k, m),
         next: Interval(next),
         finding: Finding {
             worst: Worst(worst),
             n: Interval(4294967295),
-            side: Side::Both,
+            side: side,
         },
     };
     text(b"tally");
@@ -245,14 +246,14 @@ fn tallies() {
     taken(Tally::start(Shape::of(5, 5), Interval(8)).take(19));
     text(b"tally");
     taken(Tally::start(Shape::of(4294967295, 4294967295), Interval(4294967295)).take(65535));
-    forged(15, 15, 32767, 0, 32767);
-    forged(15, 15, 32767, 18446744073709551615, 32767);
-    forged(15, 15, 32767, 0, 32768);
-    forged(15, 15, 32768, 0, 65535);
-    forged(15, 16, 4294967295, 0, 65535);
-    forged(0, 16, 4294967295, 0, 65535);
-    forged(5, 5, 8, 42, 19);
-    forged(5, 5, 8, 43, 19);
+    forged(15, 15, 32767, 0, Side::Left, 32767);
+    forged(15, 15, 32767, 18446744073709551615, Side::Left, 32767);
+    forged(15, 15, 32767, 0, Side::Right, 32768);
+    forged(15, 15, 32768, 0, Side::Right, 65535);
+    forged(15, 16, 4294967295, 0, Side::Right, 65535);
+    forged(0, 16, 4294967295, 0, Side::Right, 65535);
+    forged(5, 5, 8, 42, Side::Left, 19);
+    forged(5, 5, 8, 43, Side::Left, 19);
 }
 
 fn lines_of_table_6() {
