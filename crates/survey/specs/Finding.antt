@@ -16,10 +16,12 @@ pub record Figures : Type 0 where
 abbrev pub fresh : Figures
 fresh = record { worst = 0; n = 0; side = 0 }
 
--- what the field f of interval n contributes
+-- what the value j contributes at interval n, and so the field f
+abbrev pub valueFigures : Shape → ℕ → ℕ → Figures
+valueFigures s n j = record { worst = worst (unit s) (iOf s n) j; n = n; side = side (unit s) (iOf s n) j }
+
 abbrev pub entryFigures : Shape → ℕ → ℕ → Figures
-entryFigures s n f =
-    record { worst = worst (unit s) (iOf s n) (jOf s f); n = n; side = side (unit s) (iOf s n) (jOf s f) }
+entryFigures s n f = valueFigures s n (jOf s f)
 
 -- "An entry replaces the finding only where its worst is larger."
 abbrev pub orLarger : Figures → Figures → Figures

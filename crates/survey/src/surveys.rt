@@ -8,8 +8,7 @@ ghost use Rattle.units.specs.Inner.Good.{GoodWidths};
 ghost use Rattle.units.specs.Refusals.{fewCells};
 ghost use Rattle.survey.specs.Survey.{reported, surveyAfter, surveyReport, bankReport, bankOfReport};
 use crate::tallies::Finding;
-use crate::tallies::Tally;
-use entry::is_wide;
+use entry::fields_of;
 use table::BankAnswer;
 use table::named_bank;
 use units::Interval;
@@ -32,18 +31,18 @@ fn survey_fields(shape: Shape, first: u32, cells: &[u16]) -> SurveyAnswer
     requires { ⌜ (GoodWidths shape) × (first + length (now cells) ≤ 2 ^ shape .k) ⌝ }
     ensures { λ r. ⌜ reported r ≡ surveyAfter [] shape first (now (cells .entry)) ⌝ }
 {
-    let mut tally = Tally::start(shape, Interval(first));
+    let fields = fields_of(shape);
+    let mut finding = Finding::fresh();
     let mut at: usize = 0;
     while at < cells.len() {
         let f = cells[at];
         let n = Interval(first + at as u32);
-        if is_wide(shape, f) {
+        if fields.is_wide(f) {
             return SurveyAnswer::TooWide(n);
         }
-        tally = tally.add(n, f);
+        finding = finding.or_larger(shape, n, fields.entry(f));
         at += 1;
     }
-    let finding = tally.finding;
     SurveyAnswer::Surveyed(finding)
 }
 

@@ -2,12 +2,13 @@
 ghost use mathlib.Core.Path.{_≡_};
 ghost use Rattle.entry.specs.Errors.{jOf};
 ghost use Rattle.entry.specs.Inner.Good.{GoodEntry};
-ghost use Rattle.survey.specs.Finding.{entryFigures, orLarger};
+ghost use Rattle.survey.specs.Finding.{fresh, valueFigures, orLarger};
 ghost use Rattle.survey.specs.Tally.{figuresOf, stateOf, started, talliedAt, reported, tallyReport};
 use entry::entry_of;
 use entry::is_wide;
 use entry::placed;
 use entry::sizes_of;
+use units::Entry;
 use units::Interval;
 use units::Outcome;
 use units::Refusal;
@@ -37,13 +38,24 @@ pub enum TallyAnswer {
 }
 
 impl Finding {
-    // "An entry replaces the finding only where its worst is larger": the field f of interval n. Its
-    // side is worked out only where it does.
-    fn or_larger(self, shape: Shape, n: Interval, f: u16) -> Finding
-        requires { ⌜ GoodEntry shape (n .0) (jOf shape f) ⌝ }
-        ensures { λ r. ⌜ figuresOf r ≡ orLarger (figuresOf self) (entryFigures shape (n .0) f) ⌝ }
+    // "worst 0, n 0, side 0".
+    pub(crate) fn fresh() -> Finding
+        ensures { λ r. ⌜ figuresOf r ≡ fresh ⌝ }
     {
-        let sizes = sizes_of(shape, n, entry_of(shape, f));
+        Finding {
+            worst: Worst(0),
+            n: Interval(0),
+            side: Side::Left,
+        }
+    }
+
+    // "An entry replaces the finding only where its worst is larger": the value j of interval n. Its
+    // side is worked out only where it does.
+    pub(crate) fn or_larger(self, shape: Shape, n: Interval, j: Entry) -> Finding
+        requires { ⌜ GoodEntry shape (n .0) (j .0) ⌝ }
+        ensures { λ r. ⌜ figuresOf r ≡ orLarger (figuresOf self) (valueFigures shape (n .0) (j .0)) ⌝ }
+    {
+        let sizes = sizes_of(shape, n, j);
         let worst = sizes.worst();
         if self.worst.0 < worst.0 {
             return Finding {
@@ -65,11 +77,7 @@ impl Tally {
         Tally {
             shape: shape,
             next: first,
-            finding: Finding {
-                worst: Worst(0),
-                n: Interval(0),
-                side: Side::Left,
-            },
+            finding: Finding::fresh(),
         }
     }
 
@@ -84,7 +92,7 @@ impl Tally {
         Tally {
             shape: shape,
             next: Interval(n.0 + 1),
-            finding: old.or_larger(shape, n, f),
+            finding: old.or_larger(shape, n, entry_of(shape, f)),
         }
     }
 

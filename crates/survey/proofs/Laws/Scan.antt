@@ -16,7 +16,6 @@ use Rattle.table.specs.First.{anyOf, firstOf}
 use Rattle.table.specs.Wide.{wideAmong}
 use Rattle.survey.specs.Finding.{Figures, fresh, entryFigures, orLarger, findingOver}
 use Rattle.survey.specs.Survey.{Report, refused, surveyed, surveyAfter}
-use Rattle.survey.specs.Tally.{State, started, talliedAt}
 
 -- what is left of a survey: the fields from interval n on, and the finding so far
 abbrev pub surveyFrom : Shape → ℕ → List ℕ → Figures → Report
@@ -35,42 +34,36 @@ wide-first : (s : Shape) (n f : ℕ) (fs : List ℕ) (old : Figures) → isWide 
 unfolding answer anyOf firstOf
 wide-first s n f fs old e = simp e
 
--- a tally that has taken the cells before `at`, the first of them that of interval `first`: what is left is the whole survey
-pub record Surveying (s : Shape) (first : ℕ) (cells : List ℕ) (t : State) (at : ℕ) : Type 0 where
+-- the finding over the cells before `at`, the first of them that of interval `first`: what is left is the whole survey
+pub record Surveying (s : Shape) (first : ℕ) (cells : List ℕ) (old : Figures) (at : ℕ) : Type 0 where
   pub within : at ≤ length cells
-  pub shape-is : t .shape ≡ s
-  pub left-is : surveyFrom s (first + at) (drop at cells) (t .finding) ≡ surveyAfter [] s first cells
+  pub left-is : surveyFrom s (first + at) (drop at cells) old ≡ surveyAfter [] s first cells
 
 module _ {s : Shape} {first : ℕ} (cells : List ℕ) where
-  pub surveying-starts : {t : State} → t ≡ started s first → Surveying s first cells t 0
-  surveying-starts {t} begun =
-      record {
-        within = omega arith;
-        shape-is = ap (λ (x : State). x .shape) begun;
-        left-is = ap₂ (λ (n : ℕ) (old : Figures). surveyFrom s n cells old) (add-zero first) (ap (λ (x : State). x .finding) begun);
-      }
+  pub surveying-starts : {old : Figures} → old ≡ fresh → Surveying s first cells old 0
+  surveying-starts is =
+      record { within = omega arith; left-is = ap₂ (λ (n : ℕ) (old : Figures). surveyFrom s n cells old) (add-zero first) is }
 
-  module _ {t : State} {at : ℕ} (v : Surveying s first cells t at) where
+  module _ {old : Figures} {at : ℕ} (v : Surveying s first cells old at) where
     pub surveying-goes-on : at < length cells → isWide s (getD cells at 0) ≡ false
-        → {next : State} → next ≡ talliedAt t (first + at) (getD cells at 0)
+        → {next : Figures} → next ≡ orLarger old (entryFigures s (first + at) (getD cells at 0))
         → Surveying s first cells next (at + 1)
     surveying-goes-on inside narrow is =
         let n : first + (at + 1) ≡ suc (first + at) = omega arith in
         record {
           within = omega arith;
-          shape-is = ap (λ (x : State). x .shape) is ∙ v .shape-is;
           left-is =
-              rw (is, v .shape-is, n, add-one at)
-              (sym (narrow-first s (first + at) (getD cells at 0) (drop (suc at) cells) (t .finding) narrow)
+              rw (is, n, add-one at)
+              (sym (narrow-first s (first + at) (getD cells at 0) (drop (suc at) cells) old narrow)
               ∙ (rw (drop-cons cells at 0 inside) at (v .left-is)));
         }
 
     pub surveying-stops : at < length cells → isWide s (getD cells at 0) ≡ true → refused (reply 5 (first + at)) ≡ surveyAfter [] s first cells
     surveying-stops inside wide =
-        sym (wide-first s (first + at) (getD cells at 0) (drop (suc at) cells) (t .finding) wide) ∙ (rw (drop-cons cells at 0 inside) at (v .left-is))
+        sym (wide-first s (first + at) (getD cells at 0) (drop (suc at) cells) old wide) ∙ (rw (drop-cons cells at 0 inside) at (v .left-is))
 
-    pub surveying-ends : length cells ≤ at → surveyed (t .finding) ≡ surveyAfter [] s first cells
-    surveying-ends past = sym (none-left s (first + at) (t .finding)) ∙ (rw (drop-of-length-le cells past) at (v .left-is))
+    pub surveying-ends : length cells ≤ at → surveyed old ≡ surveyAfter [] s first cells
+    surveying-ends past = sym (none-left s (first + at) old) ∙ (rw (drop-of-length-le cells past) at (v .left-is))
 
 -- tests that pass leave the survey to those after them
 pub after-passed : (tests rest : List Test) (s : Shape) (n : ℕ) (fields : List ℕ) → Passed tests → surveyAfter rest s n fields ≡ surveyAfter (tests ++ rest) s n fields
