@@ -18,7 +18,7 @@ static inline struct plain_errors plain_errors_of(uint64_t unit, uint64_t i, uin
     uint64_t left = e.high < 0 ? -e.high : e.high;
     uint64_t right = e.low < 0 ? -e.low : e.low;
     e.worst = left > right ? left : right;
-    e.side = left > right ? 0 : left < right ? 1 : 2;
+    e.side = left > right ? 0 : 1;
     return e;
 }
 

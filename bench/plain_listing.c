@@ -11,7 +11,7 @@ static char page[131072];
 // More than any line has.
 enum { LINE = 134 };
 
-static const char *const sides[] = {" left\n", " right\n", " both\n"};
+static const char *const sides[] = {" left\n", " right\n"};
 
 static char *put_text(char *to, const char *text) {
     while (*text != 0) *to++ = *text++;

@@ -4,7 +4,7 @@
 use crate::calls::*;
 use crate::hostile;
 use crate::lookups;
-use crate::rules::{self, BOTH, LEFT, RIGHT};
+use crate::rules::{self, LEFT, RIGHT};
 use crate::widths;
 use std::collections::BTreeSet;
 
@@ -170,15 +170,17 @@ fn a_line_of_widths() {
     assert_eq!(widths::line(2, 2), format!("2 2 {} 4 0 0 0", ((3 * 31 + 2) * 31 + 1) * 31));
 }
 
-/// "both" needs (2i+1)·j = 2^(P+1), and 2i+1 is odd and above 1, so no entry of
-/// any table has it. Seen here up to width 6, for every field.
+/// Document 02, L4: "an entry's two errors never have equal size". Seen here up
+/// to width 5, for everything that a cell can hold; `side` would panic.
 #[test]
-fn side_both_never_comes_up() {
-    for k in 1..=6 {
-        for m in 1..=6 {
+fn errors_never_have_equal_size() {
+    for k in 1..=5 {
+        for m in 1..=5 {
             for n in 0..1 << k {
-                for j in 1 << m..1 << (m + 1) {
-                    assert_ne!(rules::side(k, m, n, j), BOTH);
+                for f in 0..=65535 {
+                    let j = (1 << m) + f;
+                    let left = rules::high(k, m, n, j).abs() == rules::worst(k, m, n, j);
+                    assert_eq!(rules::side(k, m, n, j), if left { LEFT } else { RIGHT });
                 }
             }
         }

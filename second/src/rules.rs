@@ -7,7 +7,6 @@
 
 pub const LEFT: u64 = 0;
 pub const RIGHT: u64 = 1;
-pub const BOTH: u64 = 2;
 
 pub fn power(exponent: i64) -> i64 {
     1 << exponent
@@ -42,16 +41,15 @@ pub fn worst(k: i64, m: i64, n: i64, j: i64) -> i64 {
 }
 
 /// "Its side is 'left' (0) where high is larger in size, 'right' (1) where
-/// low is, 'both' (2) where they are equal."
+/// low is". Document 02, L4: "an entry's two errors never have equal size".
 pub fn side(k: i64, m: i64, n: i64, j: i64) -> u64 {
     let low_size = low(k, m, n, j).abs();
     let high_size = high(k, m, n, j).abs();
+    assert_ne!(low_size, high_size, "two errors of equal size: k={k} m={m} n={n} j={j}");
     if high_size > low_size {
         LEFT
-    } else if low_size > high_size {
-        RIGHT
     } else {
-        BOTH
+        RIGHT
     }
 }
 

@@ -1,4 +1,5 @@
 pub mod Worst
+pub mod Sides
 pub mod Least
 pub mod Unbeaten
 pub mod Rule

@@ -31,9 +31,9 @@ low u i j = pos u -ℤ pos ((i + 1) * j)
 unfoldable pub worst : ℕ → ℕ → ℕ → ℕ
 worst u i j = max (natAbs (low u i j)) (natAbs (high u i j))
 
--- "Its side is "left" (0) where high is larger in size, "right" (1) where low is, "both" (2) where they are equal."
+-- "Its side is "left" (0) where high is larger in size, "right" (1) where low is": where high is not, low is (`side-is-larger`)
 abbrev pub sideBySizes : ℕ → ℕ → ℕ
-sideBySizes low-size high-size = cond (ltb low-size high-size) 0 (cond (ltb high-size low-size) 1 2)
+sideBySizes low-size high-size = cond (ltb low-size high-size) 0 1
 
 unfoldable pub side : ℕ → ℕ → ℕ → ℕ
 side u i j = sideBySizes (natAbs (low u i j)) (natAbs (high u i j))

@@ -9,7 +9,7 @@ ghost use Rattle.entry.specs.Least.{leastWorst, isBest};
 ghost use Rattle.entry.specs.Rule.{ruleValue, ruleField};
 use crate::fields::cap_of;
 use crate::fields::entry_of;
-use crate::measure::sizes_of;
+use crate::measure::larger_of;
 use crate::numbers::left_end;
 use crate::numbers::unit_of;
 use crate::quotients::quotient_before;
@@ -56,7 +56,7 @@ pub fn least(shape: Shape, n: Interval) -> Worst
     requires { ⌜ GoodPlace shape (n .0) ⌝ }
     ensures { λ r. ⌜ r .0 ≡ leastWorst shape (n .0) ⌝ }
 {
-    sizes_of(shape, n, best(shape, n)).worst()
+    larger_of(shape, n, best(shape, n)).worst
 }
 
 // Whether the value j is best for interval n; of two equally good ones, both are.

@@ -18,7 +18,7 @@ pub use fields::fields_of;
 pub use fields::is_wide;
 pub use measure::Errors;
 pub use measure::errors_of;
-pub use measure::sizes_of;
+pub use measure::larger_of;
 pub use numbers::left_end;
 pub use numbers::unit_of;
 pub use quotients::quotient_before;

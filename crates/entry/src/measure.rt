@@ -1,9 +1,10 @@
 ghost use mathlib.Core.Path.{_≡_};
-ghost use Prim.Native.Nat.{_+_, _*_, _<_, _^_, max};
+ghost use Prim.Native.Nat.{_+_, _*_, _≤_, _<_, _^_, max};
 ghost use lib.IntN.{pos, _-ℤ_, natAbs};
 ghost use Rattle.units.specs.Sides.{sideNumber};
 ghost use Rattle.entry.specs.Errors.{unit, iOf, low, high, worst, side, sideBySizes};
 ghost use Rattle.entry.specs.Inner.Good.{GoodEntry};
+ghost use Rattle.entry.specs.Inner.Products.{lowOf, highOf};
 use crate::numbers::left_end;
 use crate::numbers::unit_of;
 use units::Entry;
@@ -21,10 +22,10 @@ pub struct Errors {
     pub side: Side,
 }
 
-// The sizes of low and high.
-pub struct Sizes {
-    pub low: Worst,
-    pub high: Worst,
+// The larger of an entry's two errors: its size, and the end that has it.
+pub struct Larger {
+    pub worst: Worst,
+    pub side: Side,
 }
 
 // 2^(k+m+1), i·j and (i+1)·j: high is unit - left, and low is unit - right.
@@ -32,13 +33,6 @@ struct Products {
     unit: u64,
     left: u64,
     right: u64,
-}
-
-// |a - b|.
-fn apart(a: u64, b: u64) -> Worst
-    ensures { λ r. ⌜ r .0 ≡ natAbs (pos a -ℤ pos b) ⌝ }
-{
-    if a < b { Worst(b - a) } else { Worst(a - b) }
 }
 
 // a - b, with its sign: the one place that makes a signed number.
@@ -66,46 +60,30 @@ fn products_of(shape: Shape, n: Interval, j: Entry) -> Products
 }
 
 impl Products {
-    fn sizes(self) -> Sizes
-        ensures { λ r. ⌜ (r .low .0 ≡ natAbs (pos (self .unit) -ℤ pos (self .right))) × (r .high .0 ≡ natAbs (pos (self .unit) -ℤ pos (self .left))) ⌝ }
+    // The left end has the larger error where the middle of the products is below the unit.
+    fn larger(self) -> Larger
+        requires { ⌜ (self .left < self .right) × ((self .right ≤ 2 ^ 32) × (self .unit ≤ 2 ^ 31)) ⌝ }
+        ensures { λ r. ⌜ (r .worst .0 ≡ max (natAbs (lowOf self)) (natAbs (highOf self))) × (sideNumber (r .side) ≡ sideBySizes (natAbs (lowOf self)) (natAbs (highOf self))) ⌝ }
     {
-        Sizes {
-            low: apart(self.unit, self.right),
-            high: apart(self.unit, self.left),
+        if self.left + self.right < 2 * self.unit {
+            return Larger {
+                worst: Worst(self.unit - self.left),
+                side: Side::Left,
+            };
+        }
+        Larger {
+            worst: Worst(self.right - self.unit),
+            side: Side::Right,
         }
     }
 }
 
-impl Sizes {
-    // The larger of the two.
-    pub fn worst(self) -> Worst
-        ensures { λ r. ⌜ r .0 ≡ max (self .low .0) (self .high .0) ⌝ }
-    {
-        let left = self.high;
-        let right = self.low;
-        if right.0 < left.0 { left } else { right }
-    }
-
-    // The end at which the larger one is.
-    pub fn side(self) -> Side
-        ensures { λ r. ⌜ sideNumber r ≡ sideBySizes (self .low .0) (self .high .0) ⌝ }
-    {
-        if self.low.0 < self.high.0 {
-            return Side::Left;
-        }
-        if self.high.0 < self.low.0 {
-            return Side::Right;
-        }
-        Side::Both
-    }
-}
-
-// The sizes of the errors of the value j over interval n.
-pub fn sizes_of(shape: Shape, n: Interval, j: Entry) -> Sizes
+// The larger of the errors of the value j over interval n.
+pub fn larger_of(shape: Shape, n: Interval, j: Entry) -> Larger
     requires { ⌜ GoodEntry shape (n .0) (j .0) ⌝ }
-    ensures { λ r. ⌜ (r .low .0 ≡ natAbs (low (unit shape) (iOf shape (n .0)) (j .0))) × (r .high .0 ≡ natAbs (high (unit shape) (iOf shape (n .0)) (j .0))) ⌝ }
+    ensures { λ r. ⌜ (r .worst .0 ≡ worst (unit shape) (iOf shape (n .0)) (j .0)) × (sideNumber (r .side) ≡ side (unit shape) (iOf shape (n .0)) (j .0)) ⌝ }
 {
-    products_of(shape, n, j).sizes()
+    products_of(shape, n, j).larger()
 }
 
 // The errors of the value j over interval n.
@@ -117,11 +95,13 @@ pub fn errors_of(shape: Shape, n: Interval, j: Entry) -> Errors
     ensures side_is { λ r. ⌜ sideNumber (r .side) ≡ side (unit shape) (iOf shape (n .0)) (j .0) ⌝ }
 {
     let e = products_of(shape, n, j);
-    let s = e.sizes();
+    let larger = e.larger();
+    let worst = larger.worst;
+    let side = larger.side;
     Errors {
         low: difference(e.unit, e.right),
         high: difference(e.unit, e.left),
-        worst: s.worst(),
-        side: s.side(),
+        worst: worst,
+        side: side,
     }
 }

@@ -91,7 +91,6 @@ fn side(s: Side) {
     match s {
         Side::Left => text(b", left"),
         Side::Right => text(b", right"),
-        Side::Both => text(b", both"),
     }
 }
 

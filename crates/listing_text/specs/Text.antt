@@ -33,11 +33,10 @@ newline = 10 ∷ []
 abbrev pub signed : ℤ → List ℕ
 signed e = field (cond (ltZ e (pos 0)) (32 ∷ 45 ∷ []) space) (natAbs e)
 
--- " left", " right" or " both", and the end of the line
+-- " left" or " right", and the end of the line
 abbrev pub sideEnd : ℕ → List ℕ
 sideEnd zero = 32 ∷ 108 ∷ 101 ∷ 102 ∷ 116 ∷ 10 ∷ []
-sideEnd (suc zero) = 32 ∷ 114 ∷ 105 ∷ 103 ∷ 104 ∷ 116 ∷ 10 ∷ []
-sideEnd (suc (suc _)) = 32 ∷ 98 ∷ 111 ∷ 116 ∷ 104 ∷ 10 ∷ []
+sideEnd (suc _) = 32 ∷ 114 ∷ 105 ∷ 103 ∷ 104 ∷ 116 ∷ 10 ∷ []
 
 -- "First line: widths and 2^P": "k=1 m=2 unit=16"
 abbrev pub firstLine : Shape → List ℕ

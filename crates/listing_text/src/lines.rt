@@ -28,7 +28,7 @@ use units::Side;
 // The most bytes that a line has.
 pub const LINE_MOST: usize = 134;
 
-// " left", " right" or " both", and the end of the line.
+// " left" or " right", and the end of the line.
 fn put_side(page: &mut [u8], at: usize, s: Side) -> usize
     requires { ⌜ at + 7 ≤ length (now page) ⌝ }
     ensures { λ r. ⌜ Put (sideEnd (sideNumber s)) 7 (now (page .entry)) at (now (page .exit)) r ⌝ }
@@ -36,7 +36,6 @@ fn put_side(page: &mut [u8], at: usize, s: Side) -> usize
     match s {
         Side::Left => put(page, at, b" left\n"),
         Side::Right => put(page, at, b" right\n"),
-        Side::Both => put(page, at, b" both\n"),
     }
 }
 

@@ -6,8 +6,8 @@ ghost use Rattle.survey.specs.Finding.{fresh, valueFigures, orLarger};
 ghost use Rattle.survey.specs.Tally.{figuresOf, stateOf, started, talliedAt, reported, tallyReport};
 use entry::entry_of;
 use entry::is_wide;
+use entry::larger_of;
 use entry::placed;
-use entry::sizes_of;
 use units::Entry;
 use units::Interval;
 use units::Outcome;
@@ -49,19 +49,19 @@ impl Finding {
         }
     }
 
-    // "An entry replaces the finding only where its worst is larger": the value j of interval n. Its
-    // side is worked out only where it does.
+    // "An entry replaces the finding only where its worst is larger": the value j of interval n.
     pub(crate) fn or_larger(self, shape: Shape, n: Interval, j: Entry) -> Finding
         requires { ⌜ GoodEntry shape (n .0) (j .0) ⌝ }
         ensures { λ r. ⌜ figuresOf r ≡ orLarger (figuresOf self) (valueFigures shape (n .0) (j .0)) ⌝ }
     {
-        let sizes = sizes_of(shape, n, j);
-        let worst = sizes.worst();
+        let larger = larger_of(shape, n, j);
+        let worst = larger.worst;
         if self.worst.0 < worst.0 {
+            let side = larger.side;
             return Finding {
                 worst: worst,
                 n: n,
-                side: sizes.side(),
+                side: side,
             };
         }
         self

@@ -1,10 +1,9 @@
 -- Document 01, "Numbers and their units". Assumes nothing.
 use Prim.Native.Nat.{ℕ}
 use Rattle.units.specs.declared.kinds.Side.{Side}
-use Rattle.units.specs.declared.kinds.Side.the-variants.{Left, Right, Both}
+use Rattle.units.specs.declared.kinds.Side.the-variants.{Left, Right}
 
--- "Its side is "left" (0) .., "right" (1) .., "both" (2)"
+-- "Its side is "left" (0) .., "right" (1) .."
 abbrev pub sideNumber : Side → ℕ
 sideNumber Left = 0
 sideNumber Right = 1
-sideNumber Both = 2

@@ -32,7 +32,6 @@ pub struct Worst(pub u64);
 pub enum Side {
     Left,
     Right,
-    Both,
 }
 
 impl Error {
@@ -63,7 +62,6 @@ impl Side {
         match self {
             Side::Left => 0,
             Side::Right => 1,
-            Side::Both => 2,
         }
     }
 }

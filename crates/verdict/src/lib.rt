@@ -11,8 +11,8 @@ ghost use Rattle.table.specs.Wide.{anyWide};
 ghost use Rattle.verdict.specs.Check.{reported, notBest, firstFailing, checkReport};
 use entry::entry_of;
 use entry::is_best;
+use entry::larger_of;
 use entry::least;
-use entry::sizes_of;
 use table::FieldsOutcome;
 use table::whole_fields;
 use units::Entry;
@@ -39,9 +39,10 @@ fn not_best(shape: Shape, n: Interval, j: Entry) -> CheckAnswer
     requires { ⌜ GoodEntry shape (n .0) (j .0) ⌝ }
     ensures { λ r. ⌜ reported r ≡ notBest (n .0) (worst (unit shape) (iOf shape (n .0)) (j .0)) (leastWorst shape (n .0)) ⌝ }
 {
+    let worst = larger_of(shape, n, j).worst;
     CheckAnswer::NotBest {
         n: n,
-        worst: sizes_of(shape, n, j).worst(),
+        worst: worst,
         least: least(shape, n),
     }
 }

@@ -6,14 +6,14 @@ use mathlib.Core.Path.{_≡_}
 use native.Mathlib.Nat.{mul-le-mul}
 use native.Mathlib.Omega.{arith}
 use borrow.Author.Tests.{leb-false, lt-leb}
-use lib.Pow.{pow-mono}
+use lib.Pow.{pow-pos, pow-mono}
 use Rattle.units.specs.Refusals.{widthTests, place}
 use Rattle.units.specs.Inner.Good.{GoodWidths}
 use Rattle.units.specs.declared.shapes.Shape.{Shape}
 use Rattle.units.proofs.Laws.Good.{widths-good, good-widths}
 use Rattle.units.proofs.Laws.Tests.{Passed, passed-parts, passed-also}
 use Rattle.entry.specs.Errors.{unit, iOf, jOf}
-use Rattle.entry.specs.Fields.{isWide, tooWide}
+use Rattle.entry.specs.Fields.{cap, isWide, tooWide}
 use Rattle.entry.specs.Inner.Good.{GoodPlace, GoodEntry}
 use Rattle.entry.specs.Report.{placeTests, entryTests}
 use Rattle.entry.proofs.Laws.Fields.{field-in-range, cap-within-one}
@@ -28,9 +28,13 @@ module _ {s : Shape} {n : ℕ} where
   good-place g =
       passed-also (widthTests s) (place (s .k) n ∷ []) (good-widths (g .widths)) (lt-leb (2 ^ s .k) n (g .interval), tt)
 
-  -- a field that is not over-wide is an entry's
+  -- a value in range is an entry's
+  pub good-value : {j : ℕ} → GoodPlace s n → (2 ^ s .m ≤ j) × (j ≤ cap s) → GoodEntry s n j
+  good-value g range = record { place = g; above-0 = omega (arith, pow-pos (s .m)); entry = omega (arith, cap-within-one s) }
+
+  -- and so is that of a field that is not over-wide
   pub good-field : (f : ℕ) → GoodPlace s n → isWide s f ≡ false → GoodEntry s n (jOf s f)
-  good-field f g narrow = record { place = g; entry = omega (arith, field-in-range s f narrow, cap-within-one s) }
+  good-field f g narrow = good-value g (field-in-range s f narrow)
 
   pub good-entry-tests : (f : ℕ) → GoodPlace s n → isWide s f ≡ false → Passed (entryTests s n f)
   good-entry-tests f g narrow = passed-also (placeTests s n) (tooWide s n f ∷ []) (good-place g) (narrow, tt)

@@ -1,22 +1,34 @@
 -- Low and high from the products at an interval's ends. Assumes nothing.
-use Prim.Native.Nat.{ℕ, _+_, _*_}
-use mathlib.Core.Path.{_≡_, ap}
+use Prim.Native.Nat.{ℕ, _+_, _*_, _^_, _≤_, _<_, max}
+use mathlib.Core.Path.{_≡_, ap, ap₂}
 use native.Mathlib.Omega.{arith}
-use lib.IntN.{ℤ, pos, _-ℤ_}
-use Rattle.entry.specs.Errors.{low, high}
+use lib.IntN.{pos, _-ℤ_, natAbs}
+use Rattle.units.specs.declared.shapes.Shape.{Shape}
+use Rattle.entry.specs.Errors.{unit, iOf, low, high, worst, sideBySizes, side}
+use Rattle.entry.specs.Inner.Good.{GoodEntry}
+use Rattle.entry.specs.Inner.Products.{lowOf, highOf}
 use Rattle.entry.specs.declared.measure.Products.{Products}
 use Rattle.entry.proofs.Laws.Differences.{less-sum, less-by}
+use Rattle.entry.proofs.Laws.Good.{unit-bound, product-bound}
 
-abbrev lowOf : Products → ℤ
-lowOf e = pos (e .unit) -ℤ pos (e .right)
+module _ {e : Products} (u i j : ℕ) (is : e ≡ record { unit = u; left = i * j; right = (i + 1) * j }) where
+  pub products-measure : (lowOf e ≡ low u i j) × (highOf e ≡ high u i j)
+  unfolding low high
+  products-measure = (ap lowOf is, ap highOf is)
 
-abbrev highOf : Products → ℤ
-highOf e = pos (e .unit) -ℤ pos (e .left)
+  -- so the larger size is the worst error's, and its side the entry's
+  pub products-larger : (max (natAbs (lowOf e)) (natAbs (highOf e)) ≡ worst u i j) × (sideBySizes (natAbs (lowOf e)) (natAbs (highOf e)) ≡ side u i j)
+  unfolding worst side
+  products-larger =
+      let low-size = ap natAbs (products-measure .0) in
+      let high-size = ap natAbs (products-measure .1) in
+      (ap₂ max low-size high-size, ap₂ sideBySizes low-size high-size)
 
-pub products-measure : {e : Products} (u i j : ℕ) → e ≡ record { unit = u; left = i * j; right = (i + 1) * j }
-    → (lowOf e ≡ low u i j) × (highOf e ≡ high u i j)
-unfolding low high
-products-measure u i j p = (ap lowOf p, ap highOf p)
+-- an entry's two products differ, and are not too large
+pub products-apart : {s : Shape} {n j : ℕ} {e : Products} → GoodEntry s n j
+    → e ≡ record { unit = unit s; left = iOf s n * j; right = (iOf s n + 1) * j }
+    → (e .left < e .right) × ((e .right ≤ 2 ^ 32) × (e .unit ≤ 2 ^ 31))
+products-apart g is = rw is (omega (arith, g .above-0, product-bound g, unit-bound (g .place .widths)))
 
 -- The product at the right end is the one at the left end and j more
 pub right-from-left : (i j : ℕ) → (i + 1) * j ≡ i * j + j

@@ -5,7 +5,7 @@ use native.Mathlib.Omega.{arith}
 use borrow.Author.Tests.{lt-ltb, le-ltb}
 use lib.IntN.{pos, _-ℤ_, natAbs}
 use Rattle.units.proofs.Laws.Order.{by-order}
-use Rattle.entry.specs.Errors.{high, low, worst, side}
+use Rattle.entry.specs.Errors.{high, low, worst}
 
 -- the distance of two numbers
 unfoldable pub dist : ℕ → ℕ → ℕ
@@ -35,31 +35,3 @@ worst-within u i j w l r = rw worst-by-ends (omega arith)
 
 pub within-worst : (u i j : ℕ) → (u ≤ i * j + worst u i j) × ((i + 1) * j ≤ u + worst u i j)
 within-worst u i j = rw worst-by-ends (omega arith)
-
--- MATH.md, 2: which side is larger goes by the sign of 2u - (2i+1)·j
-module _ (u i j : ℕ) where
-  pub side-left : 0 < j → (2 * i + 1) * j < 2 * u → side u i j ≡ 0
-  unfolding side low high dist
-  side-left p h =
-      simp (
-        size-of-difference,
-        lt-ltb (dist u ((i + 1) * j)) (dist u (i * j)) (omega arith),
-      )
-
-  pub side-right : 0 < j → 2 * u < (2 * i + 1) * j → side u i j ≡ 1
-  unfolding side low high dist
-  side-right p h =
-      simp (
-        size-of-difference,
-        le-ltb (dist u ((i + 1) * j)) (dist u (i * j)) (omega arith),
-        lt-ltb (dist u (i * j)) (dist u ((i + 1) * j)) (omega arith),
-      )
-
-  pub side-both : (2 * i + 1) * j ≡ 2 * u → side u i j ≡ 2
-  unfolding side low high dist
-  side-both h =
-      simp (
-        size-of-difference,
-        le-ltb (dist u ((i + 1) * j)) (dist u (i * j)) (omega arith),
-        le-ltb (dist u (i * j)) (dist u ((i + 1) * j)) (omega arith),
-      )

@@ -8,7 +8,8 @@ pub record GoodPlace (s : Shape) (n : ℕ) : Type 0 where
   pub widths : GoodWidths s
   pub interval : n < 2 ^ s .k
 
--- and an entry number of at most 1.0
+-- and an entry number above 0 and of at most 1.0
 pub record GoodEntry (s : Shape) (n j : ℕ) : Type 0 where
   pub place : GoodPlace s n
+  pub above-0 : 0 < j
   pub entry : j ≤ 2 ^ (s .m + 1)

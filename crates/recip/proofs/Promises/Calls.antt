@@ -22,6 +22,7 @@
 --     error-above-low, error-at-most-high, high-reached, low-approached    "Over interval n it runs from low (not reached) to high
 --                                          (reached at the left end)", at every x
 --     high-less-low                        "An entry's two errors differ by exactly j"
+--     ends-never-equal, side-is-larger     "an entry's two errors never have equal size": the side is 0 and high is larger, or 1 and low is
 --     worst-bounds-error, worst-is-least-bound    a fraction bounds the error at every x iff the worst error is at most that
 --     nearest-is-nearest                   "Nearest is worked out exactly": no whole number is nearer
 --     written-reads-back                   "Read back, a written table is the same table": for every table of good fields, into any cells
@@ -34,6 +35,7 @@
 pub use Rattle.entry.proofs.Laws.Everywhere.{error-above-low, error-at-most-high, high-reached, low-approached, worst-bounds-error, worst-is-least-bound}
 pub use Rattle.entry.proofs.Laws.Nearest.{nearest-is-nearest}
 pub use Rattle.entry.proofs.Laws.Products.{high-less-low}
+pub use Rattle.entry.proofs.Laws.Sides.{ends-never-equal, IsSide, side-is-larger}
 pub use Rattle.table.proofs.Laws.AnyOrder.{banks-in-any-order}
 pub use Rattle.table.proofs.Laws.Built.{length-built, bank-built-keeps-before, bank-built-keeps-after, length-bank-built}
 pub use Rattle.table.proofs.Laws.Found.{found-error-within}

@@ -7,7 +7,7 @@ use lib.Dec.{eqb}
 use Rattle.units.specs.Sides.{sideNumber}
 use Rattle.units.specs.Refusals.{Reply, replyOf, refusalNumber}
 use Rattle.units.specs.declared.kinds.Side.{Side}
-use Rattle.units.specs.declared.kinds.Side.the-variants.{Left, Right, Both}
+use Rattle.units.specs.declared.kinds.Side.the-variants.{Left, Right}
 use Rattle.units.specs.declared.refusals.Outcome.{Outcome}
 use Rattle.units.specs.declared.refusals.Outcome.the-variants.{Done, Refused}
 use Rattle.units.specs.declared.refusals.Refusal.{Refusal}
@@ -18,12 +18,11 @@ pub one-to-one : {A B : Type 0} (f : A → B) (back : B → A) → ((a : A) → 
 one-to-one f back reads a b e = sym (reads a) ∙ ap back e ∙ reads b
 
 abbrev pub sideOf : ℕ → Side
-sideOf s = cond (eqb s 0) Left (cond (eqb s 1) Right Both)
+sideOf s = cond (eqb s 0) Left Right
 
 pub side-reads : (s : Side) → sideOf (sideNumber s) ≡ s
 side-reads Left = refl
 side-reads Right = refl
-side-reads Both = refl
 
 abbrev pub refusalOf : ℕ → Refusal
 refusalOf q =

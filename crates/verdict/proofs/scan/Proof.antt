@@ -9,8 +9,7 @@ use lib.ListN.{length}
 use Rattle.entry.specs.Fields.{cap}
 use Rattle.entry.specs.Inner.Good.{GoodPlace}
 use Rattle.entry.specs.Least.{isBest}
-use Rattle.entry.proofs.Laws.Fields.{cap-within-one}
-use Rattle.entry.proofs.Laws.Good.{interval-bound}
+use Rattle.entry.proofs.Laws.Good.{good-value, interval-bound}
 use Rattle.verdict.proofs.Laws.Scan.{Scanning, scanning-ends, scanning-value, scanning-goes-on, scanning-stops}
 use Rattle.verdict.proofs.scan.Statement.{statement}
 use Rattle.verdict.proofs.scan.Tie as tie
@@ -35,10 +34,7 @@ value c = scanning-value (c .before .before .before .loop .inv) (c .before .befo
 not-best-requires : tie.Need-not-best-requires Inv-loop μ-loop
 not-best-requires c κs =
     let entry = c .before .before in
-    record {
-      place = here (entry .before .before);
-      entry = omega (arith, value entry .1, cap-within-one (entry .before .before .before .before .before .args .shape));
-    }
+    good-value (here (entry .before .before)) (value entry)
 
 loop-again : tie.Need-loop-again Inv-loop μ-loop
 loop-again c =

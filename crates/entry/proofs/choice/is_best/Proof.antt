@@ -1,8 +1,7 @@
 -- `entry::is_best` meets its contract: the numbers handed on are the table's, and the test with one product decides. Assumes nothing.
 use mathlib.Core.Path.{_∙_}
 use native.Mathlib.Omega.{arith}
-use Rattle.entry.proofs.Laws.Fields.{cap-within-one}
-use Rattle.entry.proofs.Laws.Good.{unit-bound, interval-bound, entry-bound}
+use Rattle.entry.proofs.Laws.Good.{good-value, unit-bound, interval-bound, entry-bound}
 use Rattle.entry.proofs.Laws.Table.{one-product-is-best}
 use borrow.Author.Needs.{needs}
 use Rattle.entry.proofs.choice.is_best.Statement.{statement}
@@ -17,7 +16,7 @@ passes-requires c κs =
       c .before .left-end .ensures,
       unit-bound (start .pre .0 .widths),
       interval-bound (start .pre .0),
-      entry-bound {j = start .args .j .0} (record { place = start .pre .0; entry = omega (arith, start .pre .1 .1, cap-within-one (start .args .shape)) }),
+      entry-bound (good-value (start .pre .0) (start .pre .1)),
     )
 
 returns : tie.Need-returns

@@ -1,37 +1,29 @@
 -- `entry::errors_of` meets its contract: the products are those of low and high. Assumes nothing.
-use Prim.Native.Nat.{max}
-use mathlib.Core.Path.{ap, ap₂, _∙_}
+use mathlib.Core.Path.{_∙_}
 use native.Mathlib.Omega.{arith}
-use lib.IntN.{natAbs}
-use Rattle.entry.specs.Errors.{worst, side, sideBySizes}
-use Rattle.entry.proofs.Laws.Products.{products-measure}
-use Rattle.entry.proofs.Laws.Good.{unit-bound, product-bound}
+use Rattle.entry.proofs.Laws.Products.{products-measure, products-larger, products-apart}
 use borrow.Author.Needs.{needs}
 use Rattle.entry.proofs.measure.errors_of.Statement.{statement}
 use Rattle.entry.proofs.measure.errors_of.Tie as tie
 
+larger-requires : tie.Need-larger-requires
+larger-requires c κs = products-apart (c .before .pre) (c .products-of .ensures)
+
 difference-requires : tie.Need-difference-requires
-difference-requires c κs =
-    rw (c .before .products-of .ensures)
-    (omega (arith, unit-bound (c .before .before .pre .place .widths), product-bound (c .before .before .pre)))
+difference-requires c κs = omega (arith, products-apart (c .before .before .before .pre) (c .before .before .products-of .ensures))
 
 difference-requires-2 : tie.Need-difference-requires-2
 difference-requires-2 c κs =
-    rw (c .before .before .products-of .ensures)
-    (omega (arith, unit-bound (c .before .before .before .pre .place .widths), product-bound (c .before .before .before .pre)))
+    omega (arith, products-apart (c .before .before .before .before .pre) (c .before .before .before .products-of .ensures))
 
 returns : tie.Need-returns
-unfolding worst side
 returns c =
-    let products = products-measure _ _ _ (c .before .before .before .before .before .products-of .ensures) in
-    let sizes = c .before .before .before .before .sizes .ensures in
-    let low-size = sizes .0 ∙ ap natAbs (products .0) in
-    let high-size = sizes .1 ∙ ap natAbs (products .1) in (
-      c .before .before .before .difference .ensures ∙ products .0,
-      (
-        c .before .before .difference2 .ensures ∙ products .1,
-        (c .before .worst .ensures ∙ ap₂ max low-size high-size, c .side .ensures ∙ ap₂ sideBySizes low-size high-size),
-      ),
+    let e = c .before .before .before .before .products-of .ensures in
+    let is = products-measure _ _ _ e in
+    let larger = products-larger _ _ _ e in
+    let ensures = c .before .before .before .larger .ensures in (
+      c .before .difference .ensures ∙ is .0,
+      (c .difference2 .ensures ∙ is .1, (ensures .0 ∙ larger .0, ensures .1 ∙ larger .1)),
     )
 
 pub errors-of-spec : {M : Type 1} → statement M
@@ -39,9 +31,7 @@ errors-of-spec =
     tie.close
     (tie.spec
     (λ c κs. search needs)
-    (λ c κs. search needs)
+    larger-requires
     difference-requires
     difference-requires-2
-    (λ c κs. search needs)
-    (λ c κs. search needs)
     returns)

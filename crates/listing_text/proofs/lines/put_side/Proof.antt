@@ -13,10 +13,6 @@ returns-2 : tie.Need-returns-2
 returns-2 c =
     rw (c .before .before .before .before .before .enum-told2 .given .1) (put-within (omega arith) (c .before .before .put2 .ensures))
 
-returns-3 : tie.Need-returns-3
-returns-3 c =
-    rw (c .before .before .before .before .before .enum-told3 .given .1) (put-within (omega arith) (c .before .before .put3 .ensures))
-
 pub put-side-spec : {M : Type 1} → statement M
 put-side-spec =
     tie.close
@@ -28,11 +24,6 @@ put-side-spec =
     (λ c. search needs)
     (λ c κs. search needs)
     (λ c. search needs)
-    (λ c. search needs)
-    (λ c κs. search needs)
-    (λ c. search needs)
     returns
     (λ c. search needs)
-    returns-2
-    (λ c. search needs)
-    returns-3)
+    returns-2)
