@@ -1,5 +1,5 @@
-//! Document 01's own numbers, and for the look-up those of document 02, L1, as
-//! tests of this program.
+//! Document 01's own numbers, for the look-up those of document 02, L1, and for
+//! the side what L4 says, as tests of this program.
 
 use crate::calls::*;
 use crate::hostile;

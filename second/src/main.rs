@@ -1,5 +1,5 @@
-//! An independent second program for document 01 (01-scope.md) and paragraphs L1
-//! and L2 of document 02 (02-change-requests.md). It shares no code with the
+//! An independent second program for document 01 (01-scope.md) and paragraphs L1,
+//! L2 and L4 of document 02 (02-change-requests.md). It shares no code with the
 //! library it is compared with. See README.md.
 
 mod calls;

@@ -1,6 +1,7 @@
-//! The definitions of document 01, "Numbers and their units" and "The best
-//! entry", and nothing cleverer than them. What is best is found by trying
-//! every value; no rounding rule and no midpoint takes part in the search.
+//! The definitions of document 01, "Numbers and their units" (the side after
+//! document 02, L4) and "The best entry", and nothing cleverer than them. What is
+//! best is found by trying every value; no rounding rule and no midpoint takes
+//! part in the search.
 //!
 //! k and m are from 1 to 15 here, so every product below is at most 2^33 and
 //! fits an i64 with room to spare.

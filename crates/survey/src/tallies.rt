@@ -81,9 +81,9 @@ impl Tally {
         }
     }
 
-    // A method with self takes n and f and returns the next tally. It has no tests of its own, so no
-    // other crate can call it.
-    pub(crate) fn add(self, n: Interval, f: u16) -> Tally
+    // A method with self takes n and f and returns the next tally. It has no tests of its own, so
+    // nobody else can call it.
+    fn add(self, n: Interval, f: u16) -> Tally
         requires { ⌜ GoodEntry (self .shape) (n .0) (jOf (self .shape) f) ⌝ }
         ensures { λ r. ⌜ stateOf r ≡ talliedAt (stateOf self) (n .0) f ⌝ }
     {

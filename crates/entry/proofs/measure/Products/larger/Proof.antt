@@ -1,6 +1,5 @@
 -- `entry::Products::larger` meets its contract: the middle of the products says which end has the larger error. Assumes nothing.
 use mathlib.Core.Path.{sym}
-use native.Mathlib.Omega.{arith}
 use Rattle.entry.proofs.Laws.Sides.{left-larger, right-larger}
 use borrow.Author.Needs.{needs}
 use Rattle.entry.proofs.measure.Products.larger.Statement.{statement}
