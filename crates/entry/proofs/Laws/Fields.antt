@@ -57,6 +57,13 @@ pub wide-by-end : (s : Shape) (f : ℕ) {end : ℕ} {test : Bool} → test ≡ l
 unfolding isWide
 wide-by-end s f is end = is ∙ ap (λ (x : ℕ). leb x f) end
 
+-- a value by that of field 0, which fits a cell
+pub value-by-first : (s : Shape) (f : ℕ) {first value : ℕ} → value ≡ first + f → first ≡ 2 ^ s .m → value ≡ jOf s f
+value-by-first s f is first = omega (arith, is, first)
+
+pub first-bound : {s : Shape} {first : ℕ} → GoodWidths s → first ≡ 2 ^ s .m → first ≤ 2 ^ 16
+first-bound g is = omega (arith, is, pow-mono (g .narrow-out))
+
 -- a field fits a cell
 pub fields-end-bound : {s : Shape} → GoodWidths s → fieldsEnd s ≤ 2 ^ 16
 fields-end-bound {s} g = omega (arith, fields-end-within s, pow-mono (g .narrow-out))

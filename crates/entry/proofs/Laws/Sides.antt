@@ -1,9 +1,10 @@
 -- Which of an entry's two errors is larger in size. MATH.md, 2. Assumes nothing.
 use Prim.Native.Nat.{ℕ, suc, _+_, _-_, _*_, _^_, _≤_, _<_, max}
-use mathlib.Core.Path.{_≡_, ap, _∙_}
+use mathlib.Core.Path.{_≡_}
+use native.Mathlib.Nat.{mul-zero}
 use native.Mathlib.Omega.{arith}
 use borrow.Author.Tests.{lt-ltb, le-ltb}
-use lib.IntN.{pos, _-ℤ_, natAbs}
+use lib.IntN.{pos, _-ℤ_, natAbs, +ℤ-idr}
 use lib.Pow.{pow-pos}
 use Rattle.units.specs.declared.shapes.Shape.{Shape}
 use Rattle.units.proofs.Laws.Order.{by-order}
@@ -45,12 +46,9 @@ module _ (u i j : ℕ) (positive : 0 < j) where
   equal-ends e = omega (arith, middle-between u (i * j) ((i + 1) * j) (omega arith) e)
 
 -- where j is 0 each error is u
-less-zero : (u x : ℕ) → x ≡ 0 → pos u -ℤ pos x ≡ pos u
-less-zero u x e = ap (λ (y : ℕ). pos u -ℤ pos y) e ∙ ap pos (omega arith)
-
 pub ends-of-zero : (u i : ℕ) → (low u i 0 ≡ pos u) × (high u i 0 ≡ pos u)
 unfolding low high
-ends-of-zero u i = (less-zero u ((i + 1) * 0) (omega arith), less-zero u (i * 0) (omega arith))
+ends-of-zero u i = (rw (mul-zero (i + 1)) (+ℤ-idr (pos u)), rw (mul-zero i) (+ℤ-idr (pos u)))
 
 -- "2i+1 is odd and above 1, so it can't divide a power of two; .. an entry's two errors never have equal size"
 pub ends-never-equal : (p i j : ℕ) → 0 < i → 0 < j → natAbs (low (2 ^ p) i j) ≡ natAbs (high (2 ^ p) i j) → ⊥

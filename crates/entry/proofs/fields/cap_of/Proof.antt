@@ -1,14 +1,13 @@
 -- `entry::cap_of` meets its contract: the last field is below 2^16. Assumes nothing.
 use native.Mathlib.Omega.{arith}
-use lib.Pow.{pow-mono}
 use Rattle.entry.specs.Fields.{cap}
-use Rattle.entry.proofs.Laws.Fields.{fields-end-positive, fields-end-bound}
+use Rattle.entry.proofs.Laws.Fields.{fields-end-positive, fields-end-bound, first-bound}
 use borrow.Author.Needs.{needs}
 use Rattle.entry.proofs.fields.cap_of.Statement.{statement}
 use Rattle.entry.proofs.fields.cap_of.Tie as tie
 
 entry-requires : tie.Need-entry-requires
-entry-requires c κs = omega (arith, c .before .fields-of .ensures .0, pow-mono (c .before .before .pre .narrow-out))
+entry-requires c κs = first-bound (c .before .before .pre) (c .before .fields-of .ensures .0)
 
 returns : tie.Need-returns
 unfolding cap

@@ -8,7 +8,7 @@ use lib.ListN.{length, getD}
 use lib.Pow.{pow-mono}
 use Rattle.entry.specs.Errors.{jOf}
 use Rattle.entry.specs.Fields.{isWide}
-use Rattle.entry.proofs.Laws.Fields.{wide-by-end}
+use Rattle.entry.proofs.Laws.Fields.{wide-by-end, value-by-first, first-bound}
 use Rattle.entry.proofs.Laws.Good.{good-field}
 use Rattle.survey.specs.Tally.{figuresOf}
 use Rattle.survey.proofs.Laws.Scan.{Surveying, surveying-starts, surveying-goes-on, surveying-stops, surveying-ends}
@@ -35,14 +35,17 @@ returns c =
 entry-requires : tie.Need-entry-requires Inv-loop μ-loop
 entry-requires c κs =
     let start = c .before .before .before .before .before .before .before .before in
-    omega (arith, c .before .before .before .before .before .before .fields-of .ensures .0, pow-mono (start .pre .0 .narrow-out))
+    first-bound (start .pre .0) (c .before .before .before .before .before .before .fields-of .ensures .0)
 
 -- and what it stands for
 value : (c : tie.After-entry Inv-loop μ-loop)
     → c .entry .result .0
     ≡ jOf (c .before .before .before .before .before .before .before .before .before .args .shape)
     (getD (c .before .before .before .before .before .before .before .before .before .args .cells .now) (c .before .before .before .before .before .loop .at) 0)
-value c = omega (arith, c .entry .ensures, c .before .before .before .before .before .before .before .fields-of .ensures .0)
+value c =
+    let args = c .before .before .before .before .before .before .before .before .before .args in
+    value-by-first (args .shape) (getD (args .cells .now) (c .before .before .before .before .before .loop .at) 0) (c .entry .ensures)
+    (c .before .before .before .before .before .before .before .fields-of .ensures .0)
 
 or-larger-requires : tie.Need-or-larger-requires Inv-loop μ-loop
 or-larger-requires c κs =

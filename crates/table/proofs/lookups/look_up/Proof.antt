@@ -1,12 +1,12 @@
 -- `table::look_up` meets its contract: its tests are those of `lookupReport`, and the index of X·2^s is below 2^k. Assumes nothing.
-use Prim.Native.Nat.{ℕ, _+_, _<_, _^_}
+use Prim.Native.Nat.{ℕ, _<_, _^_}
 use mathlib.Core.Path.{_≡_, sym, ap, ap₂, _∙_}
 use native.Mathlib.Omega.{arith}
 use lib.ListN.{length, getD}
 use lib.Pow.{pow-mono}
 use Rattle.units.proofs.Laws.Tests.{done-so, refused-so}
 use Rattle.entry.specs.Fields.{isWide}
-use Rattle.entry.proofs.Laws.Fields.{wide-by-end}
+use Rattle.entry.proofs.Laws.Fields.{wide-by-end, value-by-first, first-bound}
 use Rattle.table.specs.Inner.Good.{GoodLookup}
 use Rattle.table.specs.Lookup.{refused, lookedUp, indexOf, divisorTests, lookupAt}
 use Rattle.table.specs.Shift.{shifted}
@@ -78,7 +78,7 @@ returns c =
 entry-requires : tie.Need-entry-requires
 entry-requires c κs =
     let told = c .before .before .before .before .before .before .before in
-    omega (arith, c .before .before .fields-of .ensures .0, pow-mono (good told .table .widths .narrow-out))
+    first-bound (good told .table .widths) (c .before .before .fields-of .ensures .0)
 
 returns-2 : tie.Need-returns-2
 returns-2 c = refused-so refused _ (divisorTests _ _ _) _ (c .before .r .given .0 .0) (c .before .r .given .1) (c .before .before .before .findable .ensures)
@@ -91,7 +91,7 @@ returns-3 c =
     let args = told .before .before .before .before .args in
     let n = index .index-of .result in
     let f = getD (args .table .now) n 0 in
-    ap₂ (λ (s j : ℕ). lookedUp s n j) (index .before .before .shift-of .ensures) (c .entry .ensures ∙ ap (λ (first : ℕ). first + f) (fields .fields-of .ensures .0))
+    ap₂ (λ (s j : ℕ). lookedUp s n j) (index .before .before .shift-of .ensures) (value-by-first (args .shape) f (c .entry .ensures) (fields .fields-of .ensures .0))
     ∙ field-found (args .table .now) (good told) n (sym (tested (c .before .before)) ∙ c .before .if1 .left)
     ∙ ap (lookupAt (args .shape) (args .x) (args .table .now)) (index-is index)
 
