@@ -1,7 +1,7 @@
 -- Document 01, "Numbers and their units". Assumes nothing.
 use Prim.Native.Nat.{ℕ}
-use Rattle.units.specs.declared.kinds.Side.{Side}
-use Rattle.units.specs.declared.kinds.Side.the-variants.{Left, Right}
+use Rattle.units.specs.declared.counts.Side.{Side}
+use Rattle.units.specs.declared.counts.Side.the-variants.{Left, Right}
 
 -- "Its side is "left" (0) .., "right" (1) .."
 abbrev pub sideNumber : Side → ℕ

@@ -1,18 +1,18 @@
 // The kinds of numbers that a reciprocal table is counted in, the shape of a table, the numbers by
 // which a call is refused, and powers of two. Every crate above stands on this one.
-mod kinds;
+mod counts;
 mod powers;
 mod refusals;
 mod shapes;
 
-pub use kinds::Entry;
-pub use kinds::Error;
-pub use kinds::Interval;
-pub use kinds::LeftEnd;
-pub use kinds::Offset;
-pub use kinds::Shift;
-pub use kinds::Side;
-pub use kinds::Worst;
+pub use counts::Entry;
+pub use counts::Error;
+pub use counts::Interval;
+pub use counts::LeftEnd;
+pub use counts::Offset;
+pub use counts::Shift;
+pub use counts::Side;
+pub use counts::Worst;
 pub use powers::power;
 pub use powers::small_power;
 pub use refusals::Outcome;

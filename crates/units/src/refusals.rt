@@ -4,7 +4,7 @@ ghost use mathlib.Core.List.{[], _∷_};
 ghost use Prim.Native.Nat.{_^_};
 ghost use lib.Dec.{leb};
 ghost use Rattle.units.specs.Refusals.{test, reply, replyOf, refusalNumber, refusal, thenReply, outside, inputWidth, outputWidth, fewCells, bankHeight, bankNumber, place, divisor, widthTests, tableTests};
-use crate::kinds::Interval;
+use crate::counts::Interval;
 use crate::powers::power;
 use crate::shapes::Shape;
 

@@ -1,7 +1,7 @@
 -- The answer of `entry_error` can be read back from its numbers, so no two answers have the same; and which of its values are zero.
 -- Assumes nothing.
 use mathlib.Core.Path.{_≡_, refl, ap}
-use Rattle.units.specs.declared.kinds.Side.{Side}
+use Rattle.units.specs.declared.counts.Side.{Side}
 use Rattle.units.proofs.Laws.OneToOne.{one-to-one, sideOf, side-reads, byNumber, refused-reads}
 use Rattle.entry.specs.Report.{Report, refused, reported, entryTests, entryReport}
 use Rattle.entry.specs.declared.measure.Errors.{Errors}

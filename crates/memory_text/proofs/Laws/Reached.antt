@@ -11,7 +11,7 @@ use lib.ListN.{length, getD, set, replicate, length-set, length-replicate}
 use borrow.Author.Tests.{le-leb, lt-leb}
 use Rattle.units.specs.Inner.Good.{GoodWidths}
 use Rattle.units.specs.Refusals.{reply, test, answer}
-use Rattle.units.specs.declared.kinds.Offset.{Offset}
+use Rattle.units.specs.declared.counts.Offset.{Offset}
 use Rattle.units.specs.declared.shapes.Shape.{Shape}
 use Rattle.units.proofs.Laws.Order.{by-order}
 use Rattle.entry.specs.Fields.{fieldsEnd, isWide}

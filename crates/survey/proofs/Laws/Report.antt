@@ -5,7 +5,7 @@ use mathlib.Core.Path.{_≡_, refl, ap}
 use mathlib.Core.List.{List, [], _∷_, _++_}
 use native.Mathlib.Omega.{arith}
 use lib.ListN.{length, take}
-use Rattle.units.specs.declared.kinds.Side.{Side}
+use Rattle.units.specs.declared.counts.Side.{Side}
 use Rattle.units.specs.Refusals.{Test, fewCells, tableTests}
 use Rattle.units.specs.declared.shapes.Shape.{Shape}
 use Rattle.units.proofs.Laws.OneToOne.{one-to-one, sideOf, side-reads, byNumber, refused-reads}

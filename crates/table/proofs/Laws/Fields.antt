@@ -4,7 +4,7 @@ use mathlib.Core.List.{List, _++_}
 use mathlib.Core.Path.{_≡_, sym, ap, _∙_}
 use native.Mathlib.Omega.{arith}
 use Rattle.units.specs.Refusals.{Reply, reply, Test, answer, refusal, refusalNumber}
-use Rattle.units.specs.declared.kinds.Interval.{Interval}
+use Rattle.units.specs.declared.counts.Interval.{Interval}
 use Rattle.units.specs.declared.refusals.Refusal.{Refusal}
 use Rattle.units.specs.declared.shapes.Shape.{Shape}
 use Rattle.units.proofs.Laws.Tests.{refused-by, refusal-numbered, all-passed}

@@ -6,8 +6,8 @@ use mathlib.Core.Path.{_≡_, refl, sym, ap, _∙_}
 use lib.Dec.{eqb}
 use Rattle.units.specs.Sides.{sideNumber}
 use Rattle.units.specs.Refusals.{Reply, replyOf, refusalNumber}
-use Rattle.units.specs.declared.kinds.Side.{Side}
-use Rattle.units.specs.declared.kinds.Side.the-variants.{Left, Right}
+use Rattle.units.specs.declared.counts.Side.{Side}
+use Rattle.units.specs.declared.counts.Side.the-variants.{Left, Right}
 use Rattle.units.specs.declared.refusals.Outcome.{Outcome}
 use Rattle.units.specs.declared.refusals.Outcome.the-variants.{Done, Refused}
 use Rattle.units.specs.declared.refusals.Refusal.{Refusal}

@@ -12,8 +12,8 @@ use lib.Signed.{mag, ltZ, nonNeg}
 use mir.Syntax.{w64}
 use mir.Val.{Fits, SFits, toZ, ofZ}
 use mir.Facts.{toZ-ofZ}
-use Rattle.units.proofs.kinds.Error.size.Statement.{statement}
-use Rattle.units.proofs.kinds.Error.size.Tie as tie
+use Rattle.units.proofs.counts.Error.size.Statement.{statement}
+use Rattle.units.proofs.counts.Error.size.Tie as tie
 
 next : (a : ℕ) → negsuc a +ℤ pos 1 ≡ negℤ (pos a)
 next zero = refl
