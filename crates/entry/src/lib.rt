@@ -19,6 +19,7 @@ pub use fields::is_wide;
 pub use measure::Errors;
 pub use measure::errors_of;
 pub use measure::larger_of;
+pub use measure::side_of;
 pub use numbers::left_end;
 pub use numbers::unit_of;
 pub use quotients::quotient_before;

@@ -1,10 +1,11 @@
 ghost use mathlib.Core.Path.{_≡_};
 ghost use Prim.Native.Nat.{_+_, _*_, _≤_, _<_, _^_, max};
 ghost use lib.IntN.{pos, _-ℤ_, natAbs};
+ghost use Rattle.units.specs.Inner.Good.{GoodWidths};
 ghost use Rattle.units.specs.Sides.{sideNumber};
-ghost use Rattle.entry.specs.Errors.{unit, iOf, low, high, worst, side, sideBySizes};
+ghost use Rattle.entry.specs.Errors.{unit, iOf, low, high, worst, side};
 ghost use Rattle.entry.specs.Inner.Good.{GoodEntry};
-ghost use Rattle.entry.specs.Inner.Products.{lowOf, highOf};
+ghost use Rattle.entry.specs.Inner.Products.{lowOf, highOf, sideByMiddle};
 use crate::numbers::left_end;
 use crate::numbers::unit_of;
 use units::Entry;
@@ -22,10 +23,11 @@ pub struct Errors {
     pub side: Side,
 }
 
-// The larger of an entry's two errors: its size, and the end that has it.
+// The size of the larger of an entry's two errors, and the sum of the products at both ends, (2i+1)·j,
+// which tells the end that has it.
 pub struct Larger {
     pub worst: Worst,
-    pub side: Side,
+    pub middle: u64,
 }
 
 // 2^(k+m+1), i·j and (i+1)·j: high is unit - left, and low is unit - right.
@@ -59,21 +61,33 @@ fn products_of(shape: Shape, n: Interval, j: Entry) -> Products
     }
 }
 
+// The end that has the larger error: the left one where the middle of the products is below the unit.
+pub fn side_of(shape: Shape, middle: u64) -> Side
+    requires { ⌜ GoodWidths shape ⌝ }
+    ensures { λ r. ⌜ sideNumber r ≡ sideByMiddle (unit shape) middle ⌝ }
+{
+    if middle < 2 * unit_of(shape) {
+        return Side::Left;
+    }
+    Side::Right
+}
+
 impl Products {
-    // The left end has the larger error where the middle of the products is below the unit.
+    // The same test tells the larger size.
     fn larger(self) -> Larger
         requires { ⌜ (self .left < self .right) × ((self .right ≤ 2 ^ 32) × (self .unit ≤ 2 ^ 31)) ⌝ }
-        ensures { λ r. ⌜ (r .worst .0 ≡ max (natAbs (lowOf self)) (natAbs (highOf self))) × (sideNumber (r .side) ≡ sideBySizes (natAbs (lowOf self)) (natAbs (highOf self))) ⌝ }
+        ensures { λ r. ⌜ (r .worst .0 ≡ max (natAbs (lowOf self)) (natAbs (highOf self))) × (r .middle ≡ self .left + self .right) ⌝ }
     {
-        if self.left + self.right < 2 * self.unit {
+        let middle = self.left + self.right;
+        if middle < 2 * self.unit {
             return Larger {
                 worst: Worst(self.unit - self.left),
-                side: Side::Left,
+                middle: middle,
             };
         }
         Larger {
             worst: Worst(self.right - self.unit),
-            side: Side::Right,
+            middle: middle,
         }
     }
 }
@@ -81,7 +95,7 @@ impl Products {
 // The larger of the errors of the value j over interval n.
 pub fn larger_of(shape: Shape, n: Interval, j: Entry) -> Larger
     requires { ⌜ GoodEntry shape (n .0) (j .0) ⌝ }
-    ensures { λ r. ⌜ (r .worst .0 ≡ worst (unit shape) (iOf shape (n .0)) (j .0)) × (sideNumber (r .side) ≡ side (unit shape) (iOf shape (n .0)) (j .0)) ⌝ }
+    ensures { λ r. ⌜ (r .worst .0 ≡ worst (unit shape) (iOf shape (n .0)) (j .0)) × (sideByMiddle (unit shape) (r .middle) ≡ side (unit shape) (iOf shape (n .0)) (j .0)) ⌝ }
 {
     products_of(shape, n, j).larger()
 }
@@ -97,11 +111,10 @@ pub fn errors_of(shape: Shape, n: Interval, j: Entry) -> Errors
     let e = products_of(shape, n, j);
     let larger = e.larger();
     let worst = larger.worst;
-    let side = larger.side;
     Errors {
         low: difference(e.unit, e.right),
         high: difference(e.unit, e.left),
         worst: worst,
-        side: side,
+        side: side_of(shape, larger.middle),
     }
 }

@@ -9,12 +9,15 @@ ghost use Rattle.units.specs.Refusals.{fewCells};
 ghost use Rattle.survey.specs.Survey.{reported, surveyAfter, surveyReport, bankReport, bankOfReport};
 use crate::tallies::Finding;
 use entry::fields_of;
+use entry::larger_of;
+use entry::side_of;
 use table::BankAnswer;
 use table::named_bank;
 use units::Interval;
 use units::Outcome;
 use units::Refusal;
 use units::Shape;
+use units::Worst;
 use units::power;
 use units::widths;
 
@@ -26,13 +29,16 @@ pub enum SurveyAnswer {
 }
 
 // The survey of some cells, the first of them that of interval first. One pass: the first over-wide
-// field is the smallest n of 5, whatever was found before it.
+// field is the smallest n of 5, whatever was found before it. The side is told at the end: no `Finding`
+// is kept, which would cost each entry three instructions (docs/BENCHMARKS.md).
 fn survey_fields(shape: Shape, first: u32, cells: &[u16]) -> SurveyAnswer
     requires { ⌜ (GoodWidths shape) × (first + length (now cells) ≤ 2 ^ shape .k) ⌝ }
     ensures { λ r. ⌜ reported r ≡ surveyAfter [] shape first (now (cells .entry)) ⌝ }
 {
     let fields = fields_of(shape);
-    let mut finding = Finding::fresh();
+    let mut most = Worst(0);
+    let mut place = Interval(0);
+    let mut middle: u64 = 0;
     let mut at: usize = 0;
     while at < cells.len() {
         let f = cells[at];
@@ -40,10 +46,20 @@ fn survey_fields(shape: Shape, first: u32, cells: &[u16]) -> SurveyAnswer
         if fields.is_wide(f) {
             return SurveyAnswer::TooWide(n);
         }
-        finding = finding.or_larger(shape, n, fields.entry(f));
+        let larger = larger_of(shape, n, fields.entry(f));
+        let worst = larger.worst;
+        if most.0 < worst.0 {
+            most = worst;
+            place = n;
+            middle = larger.middle;
+        }
         at += 1;
     }
-    SurveyAnswer::Surveyed(finding)
+    SurveyAnswer::Surveyed(Finding {
+        worst: most,
+        n: place,
+        side: side_of(shape, middle),
+    })
 }
 
 // Test 3, and the survey of the cells from `from` up to `end`: the part is handed to the survey as a

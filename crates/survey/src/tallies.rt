@@ -8,6 +8,7 @@ use entry::entry_of;
 use entry::is_wide;
 use entry::larger_of;
 use entry::placed;
+use entry::side_of;
 use units::Entry;
 use units::Interval;
 use units::Outcome;
@@ -57,11 +58,10 @@ impl Finding {
         let larger = larger_of(shape, n, j);
         let worst = larger.worst;
         if self.worst.0 < worst.0 {
-            let side = larger.side;
             return Finding {
                 worst: worst,
                 n: n,
-                side: side,
+                side: side_of(shape, larger.middle),
             };
         }
         self

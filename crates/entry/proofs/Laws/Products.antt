@@ -1,28 +1,29 @@
 -- Low and high from the products at an interval's ends. Assumes nothing.
 use Prim.Native.Nat.{ℕ, _+_, _*_, _^_, _≤_, _<_, max}
-use mathlib.Core.Path.{_≡_, ap, ap₂}
+use mathlib.Core.Path.{_≡_, ap, ap₂, _∙_}
 use native.Mathlib.Omega.{arith}
 use lib.IntN.{pos, _-ℤ_, natAbs}
 use Rattle.units.specs.declared.shapes.Shape.{Shape}
-use Rattle.entry.specs.Errors.{unit, iOf, low, high, worst, sideBySizes, side}
+use Rattle.entry.specs.Errors.{unit, iOf, low, high, worst, side}
 use Rattle.entry.specs.Inner.Good.{GoodEntry}
-use Rattle.entry.specs.Inner.Products.{lowOf, highOf}
+use Rattle.entry.specs.Inner.Products.{lowOf, highOf, sideByMiddle}
 use Rattle.entry.specs.declared.measure.Products.{Products}
 use Rattle.entry.proofs.Laws.Differences.{less-sum, less-by}
 use Rattle.entry.proofs.Laws.Good.{unit-bound, product-bound}
+use Rattle.entry.proofs.Laws.Sides.{side-by-middle}
 
 module _ {e : Products} (u i j : ℕ) (is : e ≡ record { unit = u; left = i * j; right = (i + 1) * j }) where
   pub products-measure : (lowOf e ≡ low u i j) × (highOf e ≡ high u i j)
   unfolding low high
   products-measure = (ap lowOf is, ap highOf is)
 
-  -- so the larger size is the worst error's, and its side the entry's
-  pub products-larger : (max (natAbs (lowOf e)) (natAbs (highOf e)) ≡ worst u i j) × (sideBySizes (natAbs (lowOf e)) (natAbs (highOf e)) ≡ side u i j)
-  unfolding worst side
-  products-larger =
-      let low-size = ap natAbs (products-measure .0) in
-      let high-size = ap natAbs (products-measure .1) in
-      (ap₂ max low-size high-size, ap₂ sideBySizes low-size high-size)
+  -- so the larger size is the worst error's, and their sum tells the entry's side
+  pub products-larger : 0 < j → (max (natAbs (lowOf e)) (natAbs (highOf e)) ≡ worst u i j) × (sideByMiddle u (e .left + e .right) ≡ side u i j)
+  unfolding worst
+  products-larger positive = (
+    ap₂ max (ap natAbs (products-measure .0)) (ap natAbs (products-measure .1)),
+    ap (λ (p : Products). sideByMiddle u (p .left + p .right)) is ∙ side-by-middle u i j positive,
+  )
 
 -- an entry's two products differ, and are not too large
 pub products-apart : {s : Shape} {n j : ℕ} {e : Products} → GoodEntry s n j

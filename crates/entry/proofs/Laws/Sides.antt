@@ -1,6 +1,6 @@
 -- Which of an entry's two errors is larger in size. MATH.md, 2. Assumes nothing.
 use Prim.Native.Nat.{ℕ, suc, _+_, _-_, _*_, _^_, _≤_, _<_, max}
-use mathlib.Core.Path.{_≡_}
+use mathlib.Core.Path.{_≡_, sym}
 use native.Mathlib.Nat.{mul-zero}
 use native.Mathlib.Omega.{arith}
 use borrow.Author.Tests.{lt-ltb, le-ltb}
@@ -10,6 +10,7 @@ use Rattle.units.specs.declared.shapes.Shape.{Shape}
 use Rattle.units.proofs.Laws.Order.{by-order}
 use Rattle.units.proofs.Laws.Powers.{odd-divides-no-power}
 use Rattle.entry.specs.Errors.{unit, iOf, jOf, high, low, sideBySizes, side}
+use Rattle.entry.specs.Inner.Products.{sideByMiddle}
 use Rattle.entry.proofs.Laws.Worst.{dist, size-of-difference}
 
 -- The sizes of u - b and u - a, where a is below b: their middle says which is larger
@@ -40,6 +41,13 @@ module _ (u i j : ℕ) (positive : 0 < j) where
   pub side-right : 2 * u ≤ (2 * i + 1) * j → side u i j ≡ 1
   unfolding side low high
   side-right m = right-larger u (i * j) ((i + 1) * j) (omega arith) (omega arith) .1
+
+  -- so the sum of the products at both ends tells the side
+  pub side-by-middle : sideByMiddle u (i * j + (i + 1) * j) ≡ side u i j
+  side-by-middle =
+      by-order (2 * u) (i * j + (i + 1) * j)
+      (λ h. rw (le-ltb (i * j + (i + 1) * j) (2 * u) h) (sym (side-right (omega arith))))
+      (λ h. rw (lt-ltb (i * j + (i + 1) * j) (2 * u) h) (sym (side-left (omega arith))))
 
   pub equal-ends : natAbs (low u i j) ≡ natAbs (high u i j) → (2 * i + 1) * j ≡ 2 * u
   unfolding low high

@@ -6,6 +6,7 @@ use mathlib.Core.Path.{_≡_, refl, sym, ap, ap₂, _∙_}
 use native.Mathlib.Nat.{add-zero}
 use native.Mathlib.Numerals.{add-one}
 use native.Mathlib.Omega.{arith}
+use borrow.Author.Tests.{lt-ltb, le-ltb}
 use lib.ListN.{length, drop, getD, drop-of-length-le}
 use lib.Seq.{drop-cons}
 use Rattle.units.specs.Refusals.{reply, Test, answer}
@@ -33,6 +34,13 @@ narrow-first s n f fs old e = simp e
 wide-first : (s : Shape) (n f : ℕ) (fs : List ℕ) (old : Figures) → isWide s f ≡ true → surveyFrom s n (f ∷ fs) old ≡ refused (reply 5 n)
 unfolding answer anyOf firstOf
 wide-first s n f fs old e = simp e
+
+-- an entry replaces the finding, or leaves it
+pub larger-replaces : (old new : Figures) → old .worst < new .worst → new ≡ orLarger old new
+larger-replaces old new h = rw (lt-ltb (old .worst) (new .worst) h) refl
+
+pub smaller-leaves : (old new : Figures) → new .worst ≤ old .worst → old ≡ orLarger old new
+smaller-leaves old new h = rw (le-ltb (old .worst) (new .worst) h) refl
 
 -- the finding over the cells before `at`, the first of them that of interval `first`: what is left is the whole survey
 pub record Surveying (s : Shape) (first : ℕ) (cells : List ℕ) (old : Figures) (at : ℕ) : Type 0 where

@@ -1,6 +1,7 @@
 -- `entry::errors_of` meets its contract: the products are those of low and high. Assumes nothing.
-use mathlib.Core.Path.{_∙_}
+use mathlib.Core.Path.{ap, _∙_}
 use native.Mathlib.Omega.{arith}
+use Rattle.entry.specs.Inner.Products.{sideByMiddle}
 use Rattle.entry.proofs.Laws.Products.{products-measure, products-larger, products-apart}
 use borrow.Author.Needs.{needs}
 use Rattle.entry.proofs.measure.errors_of.Statement.{statement}
@@ -18,12 +19,16 @@ difference-requires-2 c κs =
 
 returns : tie.Need-returns
 returns c =
-    let e = c .before .before .before .before .products-of .ensures in
+    let products = c .before .before .before .before .before in
+    let e = products .products-of .ensures in
     let is = products-measure _ _ _ e in
-    let larger = products-larger _ _ _ e in
-    let ensures = c .before .before .before .larger .ensures in (
-      c .before .difference .ensures ∙ is .0,
-      (c .difference2 .ensures ∙ is .1, (ensures .0 ∙ larger .0, ensures .1 ∙ larger .1)),
+    let larger = products-larger _ _ _ e (products .before .pre .above-0) in
+    let ensures = c .before .before .before .before .larger .ensures in (
+      c .before .before .difference .ensures ∙ is .0,
+      (
+        c .before .difference2 .ensures ∙ is .1,
+        (ensures .0 ∙ larger .0, c .side-of .ensures ∙ ap (sideByMiddle _) (ensures .1) ∙ larger .1),
+      ),
     )
 
 pub errors-of-spec : {M : Type 1} → statement M
@@ -34,4 +39,5 @@ errors-of-spec =
     larger-requires
     difference-requires
     difference-requires-2
+    (λ c κs. c .before .before .before .before .before .pre .place .widths)
     returns)
