@@ -15,20 +15,25 @@ static uint64_t unit_of(uint32_t k, uint32_t m) {
     return (uint64_t)1 << (k + m + 1);
 }
 
-// The whole number nearest to 2^(k+m+2)/(2i+1), at most 2^(m+1) - 1.
-static uint64_t best(uint32_t m, uint64_t unit, uint64_t i) {
-    uint64_t most = ((uint64_t)2 << m) - 1;
+// The first number that is no field.
+static uint32_t fields_end(uint32_t m, bool one) {
+    return (1u << m) + one;
+}
+
+// The whole number nearest to 2^(k+m+2)/(2i+1), at most 2^(m+1) - 1, or 2^(m+1) in a table with one.
+static uint64_t best(uint32_t m, bool one, uint64_t unit, uint64_t i) {
+    uint64_t most = ((uint64_t)1 << m) + fields_end(m, one) - 1;
     uint64_t j = (2 * unit + i) / (2 * i + 1);
     return j < most ? j : most;
 }
 
-uint32_t plain_build(uint32_t k, uint32_t m, uint16_t *table, size_t lent) {
+uint32_t plain_build(uint32_t k, uint32_t m, bool one, uint16_t *table, size_t lent) {
     uint32_t number = refusal(k, m, lent);
     if (number != 0) return number;
     uint64_t unit = unit_of(k, m);
     uint32_t size = 1u << k;
     for (uint32_t n = 0; n < size; n++) {
-        table[n] = best(m, unit, size + n) - (1u << m);
+        table[n] = best(m, one, unit, size + n) - (1u << m);
     }
     return 0;
 }
@@ -41,18 +46,18 @@ static void check_answer(uint64_t out[5], uint64_t number, uint64_t yes, uint64_
     out[4] = least;
 }
 
-void plain_check(uint32_t k, uint32_t m, const uint16_t *table, size_t lent, uint64_t out[5]) {
+void plain_check(uint32_t k, uint32_t m, bool one, const uint16_t *table, size_t lent, uint64_t out[5]) {
     uint32_t number = refusal(k, m, lent);
     if (number != 0) return check_answer(out, number, 0, 0, 0, 0);
     uint64_t unit = unit_of(k, m);
     uint32_t size = 1u << k;
     for (uint32_t n = 0; n < size; n++) {
-        if (table[n] >= 1u << m) return check_answer(out, 5, 0, n, 0, 0);
+        if (table[n] >= fields_end(m, one)) return check_answer(out, 5, 0, n, 0, 0);
     }
     for (uint32_t n = 0; n < size; n++) {
         uint64_t i = size + n;
         uint64_t worst = plain_errors_of(unit, i, (1u << m) + table[n]).worst;
-        uint64_t least = plain_errors_of(unit, i, best(m, unit, i)).worst;
+        uint64_t least = plain_errors_of(unit, i, best(m, one, unit, i)).worst;
         if (worst != least) return check_answer(out, 0, 0, n, worst, least);
     }
     check_answer(out, 0, 1, 0, 0, 0);
@@ -65,7 +70,7 @@ static void survey_answer(uint64_t out[4], uint64_t number, uint64_t worst, uint
     out[3] = side;
 }
 
-void plain_survey(uint32_t k, uint32_t m, const uint16_t *table, size_t lent, uint64_t out[4]) {
+void plain_survey(uint32_t k, uint32_t m, bool one, const uint16_t *table, size_t lent, uint64_t out[4]) {
     uint32_t number = refusal(k, m, lent);
     if (number != 0) return survey_answer(out, number, 0, 0, 0);
     uint64_t unit = unit_of(k, m);
@@ -73,7 +78,7 @@ void plain_survey(uint32_t k, uint32_t m, const uint16_t *table, size_t lent, ui
     uint64_t worst = 0;
     uint32_t worst_n = 0, side = 0;
     for (uint32_t n = 0; n < size; n++) {
-        if (table[n] >= 1u << m) return survey_answer(out, 5, 0, n, 0);
+        if (table[n] >= fields_end(m, one)) return survey_answer(out, 5, 0, n, 0);
         uint64_t i = size + n, j = (1u << m) + table[n];
         uint64_t entry_worst = plain_errors_of(unit, i, j).worst;
         if (entry_worst > worst) {
@@ -92,14 +97,14 @@ static void look_up_answer(uint64_t out[4], uint64_t number, uint64_t s, uint64_
     out[3] = j;
 }
 
-void plain_look_up(uint32_t k, uint32_t m, uint32_t x, const uint16_t *table, size_t lent, uint64_t out[4]) {
+void plain_look_up(uint32_t k, uint32_t m, bool one, uint32_t x, const uint16_t *table, size_t lent, uint64_t out[4]) {
     uint32_t number = refusal(k, m, lent);
     if (number != 0) return look_up_answer(out, number, 0, 0, 0);
     if (x == 0 || x > 65535) return look_up_answer(out, 6, 0, 0, 0);
     uint32_t s = __builtin_clz(x) - 16;
     uint32_t n = (x << s >> (15 - k)) - (1u << k);
     uint32_t f = table[n];
-    if (f >= 1u << m) return look_up_answer(out, 5, 0, n, 0);
+    if (f >= fields_end(m, one)) return look_up_answer(out, 5, 0, n, 0);
     look_up_answer(out, 0, s, n, (1u << m) + f);
 }
 
@@ -109,14 +114,14 @@ static void memory_answer(uint64_t out[3], uint64_t number, uint64_t place, uint
     out[2] = n;
 }
 
-void plain_write_memory(uint32_t k, uint32_t m, const uint16_t *table, size_t lent, uint8_t *text, size_t room, uint64_t out[3]) {
+void plain_write_memory(uint32_t k, uint32_t m, bool one, const uint16_t *table, size_t lent, uint8_t *text, size_t room, uint64_t out[3]) {
     uint32_t number = refusal(k, m, lent);
     if (number != 0) return memory_answer(out, number, 0, 0);
     uint32_t size = 1u << k;
     for (uint32_t n = 0; n < size; n++) {
-        if (table[n] >= 1u << m) return memory_answer(out, 5, 0, n);
+        if (table[n] >= fields_end(m, one)) return memory_answer(out, 5, 0, n);
     }
-    uint32_t digits = (m + 3) / 4;
+    uint32_t digits = (m + one + 3) / 4;
     size_t length = size * (digits + 1);
     if (room < length) return memory_answer(out, 17, 0, 0);
     for (uint32_t n = 0; n < size; n++) {
@@ -153,7 +158,7 @@ static const uint8_t *after_comment(const uint8_t *at, const uint8_t *end) {
     return line ? end : NULL;
 }
 
-void plain_read_memory(uint32_t k, uint32_t m, const uint8_t *text, size_t length, uint16_t *table, size_t lent, uint64_t out[3]) {
+void plain_read_memory(uint32_t k, uint32_t m, bool one, const uint8_t *text, size_t length, uint16_t *table, size_t lent, uint64_t out[3]) {
     uint32_t number = refusal(k, m, lent);
     if (number != 0) return memory_answer(out, number, 0, 0);
     uint16_t cells[32768];
@@ -188,7 +193,7 @@ void plain_read_memory(uint32_t k, uint32_t m, const uint8_t *text, size_t lengt
             address = value;
             continue;
         }
-        if (value >= 1u << m) return memory_answer(out, 5, from - text, 0);
+        if (value >= fields_end(m, one)) return memory_answer(out, 5, from - text, 0);
         if (cells[address] != MISSING) return memory_answer(out, 10, from - text, 0);
         cells[address++] = value;
         given++;

@@ -2,6 +2,7 @@
 #ifndef PLAIN_H
 #define PLAIN_H
 
+#include <stdbool.h>
 #include <stddef.h>
 #include <stdint.h>
 
@@ -22,17 +23,17 @@ static inline struct plain_errors plain_errors_of(uint64_t unit, uint64_t i, uin
     return e;
 }
 
-// Answers document 01's number. The others put that and the rest of their answer into `out`.
-uint32_t plain_build(uint32_t k, uint32_t m, uint16_t *table, size_t lent);
+// `one` says whether the table is one with one. Answers document 01's number. The others put that and the rest of their answer into `out`.
+uint32_t plain_build(uint32_t k, uint32_t m, bool one, uint16_t *table, size_t lent);
 // number, yes, n, worst, least
-void plain_check(uint32_t k, uint32_t m, const uint16_t *table, size_t lent, uint64_t out[5]);
+void plain_check(uint32_t k, uint32_t m, bool one, const uint16_t *table, size_t lent, uint64_t out[5]);
 // number, worst, n, side
-void plain_survey(uint32_t k, uint32_t m, const uint16_t *table, size_t lent, uint64_t out[4]);
+void plain_survey(uint32_t k, uint32_t m, bool one, const uint16_t *table, size_t lent, uint64_t out[4]);
 // number, s, n, j
-void plain_look_up(uint32_t k, uint32_t m, uint32_t x, const uint16_t *table, size_t lent, uint64_t out[4]);
+void plain_look_up(uint32_t k, uint32_t m, bool one, uint32_t x, const uint16_t *table, size_t lent, uint64_t out[4]);
 // number, length, n
-void plain_write_memory(uint32_t k, uint32_t m, const uint16_t *table, size_t lent, uint8_t *text, size_t room, uint64_t out[3]);
+void plain_write_memory(uint32_t k, uint32_t m, bool one, const uint16_t *table, size_t lent, uint8_t *text, size_t room, uint64_t out[3]);
 // number, offset, n
-void plain_read_memory(uint32_t k, uint32_t m, const uint8_t *text, size_t length, uint16_t *table, size_t lent, uint64_t out[3]);
+void plain_read_memory(uint32_t k, uint32_t m, bool one, const uint8_t *text, size_t length, uint16_t *table, size_t lent, uint64_t out[3]);
 
 #endif

@@ -71,11 +71,11 @@ static const char *read_width(const char *at, uint32_t *width) {
     return at;
 }
 
-static int list(uint32_t k, uint32_t m) {
-    uint32_t number = plain_build(k, m, table, 32768);
+static int list(uint32_t k, uint32_t m, bool one) {
+    uint32_t number = plain_build(k, m, one, table, 32768);
     if (number != 0) return refuse(number);
     uint64_t survey[4];
-    plain_survey(k, m, table, 32768, survey);
+    plain_survey(k, m, one, table, 32768, survey);
 
     uint64_t unit = (uint64_t)1 << (k + m + 1);
     char *to = put_field(page, "k=", k);
@@ -110,15 +110,18 @@ static int list(uint32_t k, uint32_t m) {
 }
 
 int main(void) {
-    char line[8] = {0};
+    char line[12] = {0};
     size_t size = 0;
     ssize_t got;
-    while (size < 7 && (got = read(0, line + size, 7 - size)) > 0) size += got;
+    while (size < 11 && (got = read(0, line + size, 11 - size)) > 0) size += got;
 
     uint32_t k, m;
     const char *at = read_width(line, &k);
     if (at == NULL || *at++ != ' ') return refuse(7);
     at = read_width(at, &m);
-    if (at == NULL || *at++ != '\n' || at != line + size) return refuse(7);
-    return list(k, m);
+    if (at == NULL) return refuse(7);
+    bool one = strncmp(at, " one", 4) == 0;
+    if (one) at += 4;
+    if (*at++ != '\n' || at != line + size) return refuse(7);
+    return list(k, m, one);
 }

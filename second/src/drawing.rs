@@ -1,5 +1,7 @@
 //! Numbers drawn for the drives, the same on every run.
 
+use crate::kinds::{Kind, KINDS};
+
 /// The generator of Park and Miller (MINSTD, multiplier 48271).
 pub struct Generator {
     state: u64,
@@ -24,5 +26,9 @@ impl Generator {
             2 => 4294967295,
             _ => 1 + self.pick(most),
         }
+    }
+
+    pub fn kind(&mut self) -> Kind {
+        KINDS[self.pick(2) as usize]
     }
 }

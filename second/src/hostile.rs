@@ -4,6 +4,7 @@
 
 use crate::calls::{self, Tally};
 use crate::drawing::Generator;
+use crate::kinds::Kind;
 use crate::rules;
 
 pub const CALLS: u64 = 40000;
@@ -43,11 +44,13 @@ impl Drive {
     }
 
     /// Draws one call's inputs, makes the call and folds its answer in.
-    /// Gives op and the values folded after it; the first one is the number.
-    pub fn next_call(&mut self) -> (u64, Vec<u64>) {
+    /// Gives op, the kind and the values folded after op; the first one is the
+    /// number.
+    pub fn next_call(&mut self) -> (u64, Kind, Vec<u64>) {
         let op = self.pick(10);
         let k = self.width();
         let m = self.width();
+        let kind = self.generator.kind();
         let h = self.pick(8);
         let b = self.pick(70);
         let n = self.pick(70);
@@ -57,11 +60,11 @@ impl Drive {
 
         let values = match op {
             0 => {
-                let number = calls::build(k, m, &mut self.cells[..lent]);
+                let number = calls::build(k, m, kind, &mut self.cells[..lent]);
                 self.with_all_cells(number)
             }
             1 => {
-                let number = calls::build_bank(k, m, h, b, &mut self.cells[..lent]);
+                let number = calls::build_bank(k, m, kind, h, b, &mut self.cells[..lent]);
                 self.with_all_cells(number)
             }
             2 => {
@@ -69,24 +72,25 @@ impl Drive {
                 vec![number, stretch.len() as u64, rules::digest(stretch)]
             }
             3 => {
-                let e = calls::entry_error(k, m, n, f);
+                let e = calls::entry_error(k, m, kind, n, f);
                 let (low_sign, low_size) = sign_and_size(e.low);
                 let (high_sign, high_size) = sign_and_size(e.high);
                 vec![e.number, e.n, low_sign, low_size, high_sign, high_size, e.worst, e.side]
             }
-            4 => survey_values(calls::survey(k, m, &self.cells[..lent])),
-            5 => survey_values(calls::survey_bank_alone(k, m, h, b, &self.cells[..lent])),
-            6 => survey_values(calls::survey_bank_in_table(k, m, h, b, &self.cells[..lent])),
+            4 => survey_values(calls::survey(k, m, kind, &self.cells[..lent])),
+            5 => survey_values(calls::survey_bank_alone(k, m, kind, h, b, &self.cells[..lent])),
+            6 => survey_values(calls::survey_bank_in_table(k, m, kind, h, b, &self.cells[..lent])),
             7 => {
-                let c = calls::check(k, m, &self.cells[..lent]);
+                let c = calls::check(k, m, kind, &self.cells[..lent]);
                 vec![c.number, c.yes, c.n, c.worst, c.least]
             }
-            8 => calls::look_up(k, m, x, &self.cells[..lent]).values().to_vec(),
+            8 => calls::look_up(k, m, kind, x, &self.cells[..lent]).values().to_vec(),
             _ => {
                 self.cells[n as usize % 64] = f;
-                let (number1, n1, tally) = Tally::start(k, m, n).take(f);
+                let (number1, n1, tally) = Tally::start(k, m, kind, n).take(f);
                 let (number2, n2, t) = tally.take(f % 4);
-                vec![number1, n1, number2, n2, t.k, t.m, t.next_n, t.worst, t.n, t.side]
+                let kind = t.kind.number();
+                vec![number1, n1, number2, n2, t.k, t.m, kind, t.next_n, t.worst, t.n, t.side]
             }
         };
 
@@ -94,7 +98,7 @@ impl Drive {
         for &value in &values {
             self.digest = rules::fold(self.digest, value);
         }
-        (op, values)
+        (op, kind, values)
     }
 
     fn with_all_cells(&self, number: u64) -> Vec<u64> {

@@ -1,16 +1,20 @@
 //! An independent second program for document 01 (01-scope.md) and paragraphs L1,
-//! L2 and L4 of document 02 (02-change-requests.md). It shares no code with the
-//! library it is compared with. See README.md.
+//! L2, L4 and L5 of document 02 (02-change-requests.md). It shares no code with
+//! the library it is compared with. See README.md.
 
 mod calls;
 mod drawing;
 #[cfg(test)]
 mod examples;
 mod hostile;
+#[cfg(test)]
+mod kind_examples;
+mod kinds;
 mod lookups;
 mod memory;
 #[cfg(test)]
 mod memory_examples;
+mod precision;
 mod rules;
 mod texts;
 mod widths;
@@ -22,8 +26,9 @@ fn main() {
         ["hostile"] => hostile::run(),
         ["lookups"] => lookups::run(),
         ["memory"] => texts::run(),
+        ["precision"] => precision::run(),
         _ => {
-            eprintln!("usage: second widths | second hostile | second lookups | second memory");
+            eprintln!("usage: second widths | hostile | lookups | memory | precision");
             std::process::exit(2);
         }
     }

@@ -1,10 +1,12 @@
-//! The hex memory text of document 02, L2: its writer and its reader.
+//! The hex memory text of document 02, L2, for both kinds of table of L5: its
+//! writer and its reader.
 //! The reader cuts the whole text into pieces first, each with the offset of
 //! its first byte, and then takes the pieces in order. A numeral is held as the
 //! string of its digits, so that no number of digits is too many.
 //! As in `calls`, every answer starts as all zeros.
 
 use crate::calls;
+use crate::kinds::Kind;
 
 // ---- The writer ------------------------------------------------------------
 
@@ -19,11 +21,11 @@ pub struct Written {
 /// "lower-case hex"
 const DIGITS: &[u8; 16] = b"0123456789abcdef";
 
-/// "as many digits as m bits need": the least count of digits that has 2^m
-/// numerals. Every count is tried in order.
-fn digits_needed(m: u64) -> u32 {
+/// "as many digits as m bits need", or m+1 bits: the least count of digits that
+/// has 2^bits numerals. Every count is tried in order.
+fn digits_needed(bits: u64) -> u32 {
     let mut count = 1;
-    while 16u64.pow(count) < 1 << m {
+    while 16u64.pow(count) < 1 << bits {
         count += 1;
     }
     count
@@ -43,7 +45,7 @@ fn line(count: u32, field: u16) -> Vec<u8> {
 /// "Refusals: 1, 2, 3 first. The writer then gives 5, then 17 if the lent text
 /// buffer is too short, and writes nothing in either case." Else "it gives the
 /// length, and bytes past the text stay".
-pub fn write(k: u64, m: u64, cells: &[u16], buffer: &mut [u8]) -> Written {
+pub fn write(k: u64, m: u64, kind: Kind, cells: &[u16], buffer: &mut [u8]) -> Written {
     let number = calls::table_refusal(k, m, cells.len());
     if number != 0 {
         return Written {
@@ -54,14 +56,14 @@ pub fn write(k: u64, m: u64, cells: &[u16], buffer: &mut [u8]) -> Written {
     let table = &cells[..1 << k];
     let mut text = Vec::new();
     for (n, &field) in (0..).zip(table) {
-        if calls::too_wide(m, field) {
+        if calls::too_wide(m, kind, field) {
             return Written {
                 number: 5,
                 n,
                 ..Written::default()
             };
         }
-        text.extend(line(digits_needed(m), field));
+        text.extend(line(digits_needed(kind.text_bits(m)), field));
     }
     if buffer.len() < text.len() {
         return Written {
@@ -194,21 +196,17 @@ fn numeral(bytes: &[u8]) -> Option<Numeral> {
     Some(Numeral(stripped.collect()))
 }
 
-/// The number itself if it is below 2^width, width being at most 15. More than
-/// four digits, the first of them not 0, are 65536 or more.
-fn below_power(width: u64, numeral: &Numeral) -> Option<u16> {
+/// The number itself, if it is at most 65535. More than four digits, the first of
+/// them not 0, are 65536 or more: past every table and too wide for every m.
+fn small_number(numeral: &Numeral) -> Option<u16> {
     if numeral.0.len() > 4 {
         return None;
     }
-    let mut number = 0u64;
+    let mut number = 0;
     for &digit in &numeral.0 {
-        number = number * 16 + digit as u64;
+        number = number * 16 + digit as u16;
     }
-    if number < 1 << width {
-        Some(number as u16)
-    } else {
-        None
-    }
+    Some(number)
 }
 
 /// A piece after its form.
@@ -246,18 +244,18 @@ pub struct Read {
 
 /// The reading so far. The cells that no value was given yet are None.
 struct Reading {
-    k: u64,
     m: u64,
+    kind: Kind,
     address: usize,
     given: Vec<Option<u16>>,
 }
 
 impl Reading {
     /// "@ addresses in hex (0 at the start)"
-    fn start(k: u64, m: u64) -> Reading {
+    fn start(k: u64, m: u64, kind: Kind) -> Reading {
         Reading {
-            k,
             m,
+            kind,
             address: 0,
             given: vec![None; 1 << k],
         }
@@ -275,24 +273,29 @@ impl Reading {
 
     /// "9 for an @ address past the table"
     fn take_address(&mut self, number: &Numeral) -> u64 {
-        match below_power(self.k, number) {
-            None => 9,
-            Some(address) => {
+        match small_number(number) {
+            Some(address) if (address as usize) < self.given.len() => {
                 self.address = address as usize;
                 0
             }
+            _ => 9,
         }
     }
 
     /// 9 for "a value that would be stored past it; 5 value too wide; 10 cell
-    /// given twice"
+    /// given twice". L5: "5 for fields above 2^m in the new kind, in L2's reader
+    /// too".
     fn take_value(&mut self, number: &Numeral) -> u64 {
         if self.address >= self.given.len() {
             return 9;
         }
-        let Some(field) = below_power(self.m, number) else {
-            return 5;
-        };
+        match small_number(number) {
+            Some(field) if !calls::too_wide(self.m, self.kind, field) => self.store(field),
+            _ => 5,
+        }
+    }
+
+    fn store(&mut self, field: u16) -> u64 {
         if self.given[self.address].is_some() {
             return 10;
         }
@@ -306,7 +309,7 @@ impl Reading {
 /// and gives the offset of its first byte [...] Without a faulty token, 11
 /// gives the smallest missing n." And "a refused file leaves the lent cells as
 /// they stood": they are written at the very end only.
-pub fn read(k: u64, m: u64, text: &[u8], cells: &mut [u16]) -> Read {
+pub fn read(k: u64, m: u64, kind: Kind, text: &[u8], cells: &mut [u16]) -> Read {
     let number = calls::table_refusal(k, m, cells.len());
     if number != 0 {
         return Read {
@@ -314,7 +317,7 @@ pub fn read(k: u64, m: u64, text: &[u8], cells: &mut [u16]) -> Read {
             ..Read::default()
         };
     }
-    let mut reading = Reading::start(k, m);
+    let mut reading = Reading::start(k, m, kind);
     for (offset, piece) in cut(text) {
         let number = reading.take(&piece);
         if number != 0 {

@@ -1,6 +1,7 @@
 //! Small memory texts with their answers after document 02, L2, as tests of
-//! this program.
+//! this program. They are for plain tables; those of L5 are in kind_examples.rs.
 
+use crate::kinds::Kind::Plain;
 use crate::memory::*;
 use crate::rules;
 use crate::texts;
@@ -14,7 +15,7 @@ const BLANK: u8 = 35;
 /// Reads with one cell more than the table has; gives the answer and the cells.
 fn reading(k: u64, m: u64, text: &[u8]) -> (Read, Vec<u16>) {
     let mut cells = vec![BEFORE; (1 << k) + 1];
-    let answer = read(k, m, text, &mut cells);
+    let answer = read(k, m, Plain, text, &mut cells);
     (answer, cells)
 }
 
@@ -272,7 +273,7 @@ fn cells_missing() {
 fn numbers_1_2_3_of_the_reader() {
     let first = |k, m, lent: usize| {
         let mut cells = vec![BEFORE; lent];
-        let answer = read(k, m, b"3 5 x", &mut cells);
+        let answer = read(k, m, Plain, b"3 5 x", &mut cells);
         assert_eq!((answer.offset, answer.n), (0, 0));
         assert_eq!(cells, vec![BEFORE; lent]);
         answer.number
@@ -294,13 +295,13 @@ fn numbers_1_2_3_of_the_reader() {
 #[test]
 fn cells_lent_to_the_reader() {
     let mut exact = [BEFORE; 2];
-    assert_eq!(read(1, 4, b"3 5", &mut exact), Read::default());
+    assert_eq!(read(1, 4, Plain, b"3 5", &mut exact), Read::default());
     assert_eq!(exact, [3, 5]);
     let mut more = [BEFORE; 5];
-    assert_eq!(read(1, 4, b"7 8", &mut more), Read::default());
+    assert_eq!(read(1, 4, Plain, b"7 8", &mut more), Read::default());
     assert_eq!(more, [7, 8, BEFORE, BEFORE, BEFORE]);
     // a cell past the table is no cell of the text
-    assert_eq!(read(1, 4, b"1 2 @2 3", &mut more).number, 9);
+    assert_eq!(read(1, 4, Plain, b"1 2 @2 3", &mut more).number, 9);
     assert_eq!(more, [7, 8, BEFORE, BEFORE, BEFORE]);
 }
 
@@ -309,7 +310,7 @@ fn cells_lent_to_the_reader() {
 /// Writes with two bytes more than the text has; they stay.
 fn writes(k: u64, m: u64, cells: &[u16], text: &str) {
     let mut buffer = vec![BLANK; text.len() + 2];
-    let answer = write(k, m, cells, &mut buffer);
+    let answer = write(k, m, Plain, cells, &mut buffer);
     let length = text.len() as u64;
     assert_eq!(
         answer,
@@ -325,7 +326,7 @@ fn writes(k: u64, m: u64, cells: &[u16], text: &str) {
 /// The writing is refused with this answer, and no byte is written.
 fn writes_nothing(k: u64, m: u64, cells: &[u16], room: usize, number: u64, n: u64) {
     let mut buffer = vec![BLANK; room];
-    let answer = write(k, m, cells, &mut buffer);
+    let answer = write(k, m, Plain, cells, &mut buffer);
     assert_eq!(
         answer,
         Written {
@@ -373,7 +374,7 @@ fn refused_writings() {
 #[test]
 fn buffer_of_exactly_the_length() {
     let mut buffer = [BLANK; 4];
-    assert_eq!(write(1, 1, &[0, 1], &mut buffer).number, 0);
+    assert_eq!(write(1, 1, Plain, &[0, 1], &mut buffer).number, 0);
     assert_eq!(&buffer, b"0\n1\n");
 }
 
@@ -387,7 +388,7 @@ fn written_and_read_back() {
                 .map(|n: u64| (n * 5 % (1 << m)) as u16)
                 .collect();
             let mut buffer = vec![BLANK; 163840];
-            let written = write(k, m, &table, &mut buffer);
+            let written = write(k, m, Plain, &table, &mut buffer);
             assert_eq!((written.number, written.n), (0, 0));
             gives(k, m, &buffer[..written.length as usize], &table);
         }
@@ -408,7 +409,7 @@ fn a_table_line() {
     cells.resize(32768, 43981);
     let of_cells = rules::digest(&cells);
     assert_eq!(
-        texts::table_line(1, 1),
+        texts::table_line(1, 1, Plain),
         format!("1 1 0 4 0 {of_bytes} 0 0 0 {of_cells}")
     );
 }

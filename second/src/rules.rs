@@ -1,10 +1,12 @@
 //! The definitions of document 01, "Numbers and their units" (the side after
-//! document 02, L4) and "The best entry", and nothing cleverer than them. What is
-//! best is found by trying every value; no rounding rule and no midpoint takes
-//! part in the search.
+//! document 02, L4) and "The best entry" (the last value tried after L5), and
+//! nothing cleverer than them. What is best is found by trying every value; no
+//! rounding rule and no midpoint takes part in the search.
 //!
 //! k and m are from 1 to 15 here, so every product below is at most 2^33 and
 //! fits an i64 with room to spare.
+
+use crate::kinds::Kind;
 
 pub const LEFT: u64 = 0;
 pub const RIGHT: u64 = 1;
@@ -54,12 +56,13 @@ pub fn side(k: i64, m: i64, n: i64, j: i64) -> u64 {
     }
 }
 
-/// "'Least worst error' means over all j from 2^m to 2^(m+1) - 1."
+/// "'Least worst error' means over all j from 2^m to 2^(m+1) - 1"; with one, after
+/// document 02, L5, "least is over values up to" 2^(m+1).
 /// Looks at every such j; gives the least worst error and all j that reach it.
-pub fn best(k: i64, m: i64, n: i64) -> (i64, Vec<i64>) {
+pub fn best(k: i64, m: i64, kind: Kind, n: i64) -> (i64, Vec<i64>) {
     let mut least = i64::MAX;
     let mut reach_it = Vec::new();
-    for j in power(m)..power(m + 1) {
+    for j in power(m)..kind.cap(m) + 1 {
         let w = worst(k, m, n, j);
         if w < least {
             least = w;

@@ -1,8 +1,9 @@
-//! Mode 4: memory texts. Five built tables are written and read back; then a
-//! pseudo-random drive reads good texts and damaged ones, and writes.
+//! Mode 4: memory texts. Built tables of both kinds are written and read back;
+//! then a pseudo-random drive reads good texts and damaged ones, and writes.
 //! The order of the draws is part of the format; README.md writes it out.
 
 use crate::drawing::Generator;
+use crate::kinds::{Kind, KINDS};
 use crate::memory::{self, Read, Written};
 use crate::{calls, rules};
 use std::collections::BTreeMap;
@@ -10,7 +11,7 @@ use std::collections::BTreeMap;
 // ---- Part 1: built tables --------------------------------------------------
 
 /// The widths k, m of the tables that are written and read back.
-const TABLES: [(u64, u64); 5] = [(1, 1), (5, 6), (10, 4), (12, 13), (15, 15)];
+const TABLES: [(u64, u64); 6] = [(1, 1), (5, 6), (10, 4), (12, 13), (15, 15), (12, 3)];
 
 /// The buffer lent to the writer: one byte more than the longest text has.
 const BUFFER: usize = 163841;
@@ -28,16 +29,18 @@ fn digest_of_bytes(bytes: &[u8]) -> u64 {
     bytes.iter().fold(0, |d, &b| rules::fold(d, b as u64))
 }
 
-/// `K M NUMBER LENGTH N DIGEST NUMBER OFFSET N DIGEST`
-pub fn table_line(k: u64, m: u64) -> String {
+/// `K M NUMBER LENGTH N DIGEST NUMBER OFFSET N DIGEST`, or `K M one NUMBER ...`
+pub fn table_line(k: u64, m: u64, kind: Kind) -> String {
     let mut table = vec![0; 1 << k];
-    calls::build(k, m, &mut table);
+    calls::build(k, m, kind, &mut table);
     let mut buffer = vec![BUFFER_FILL; BUFFER];
-    let written = memory::write(k, m, &table, &mut buffer);
+    let written = memory::write(k, m, kind, &table, &mut buffer);
+    let text = &buffer[..written.length as usize];
     let mut cells = vec![CELL_FILL; CELLS];
-    let read = memory::read(k, m, &buffer[..written.length as usize], &mut cells);
+    let read = memory::read(k, m, kind, text, &mut cells);
     format!(
-        "{k} {m} {} {} {} {} {} {} {} {}",
+        "{k} {m}{} {} {} {} {} {} {} {} {}",
+        kind.mark(),
         written.number,
         written.length,
         written.n,
@@ -172,17 +175,17 @@ impl Drive {
         }
     }
 
-    /// v is below 16, one digit.
+    /// v is at most 16, one digit or two.
     fn numeral(&mut self, v: u64) {
         for _ in 0..self.pick(3) {
             self.text.push(b'0');
         }
-        let lower = b"0123456789abcdef"[v as usize];
-        match self.pick(4) {
-            0 => self.text.push(lower.to_ascii_uppercase()),
-            1 => self.text.push_all(&[lower, b'_']),
-            _ => self.text.push(lower),
-        }
+        let digits = match self.pick(4) {
+            0 => format!("{v:X}"),
+            1 => format!("{v:x}_"),
+            _ => format!("{v:x}"),
+        };
+        self.text.push_all(digits.as_bytes());
     }
 
     fn address(&mut self, n: u64) {
@@ -191,9 +194,9 @@ impl Drive {
         self.numeral(n);
     }
 
-    /// A good text for k and m, or for 1 where a width is not from 1 to 4. It
-    /// begins at a drawn address and comes round to the one before it.
-    fn make_text(&mut self, k: u64, m: u64) {
+    /// A good text for k, m and the kind, or for 1 where a width is not from 1 to
+    /// 4. It begins at a drawn address and comes round to the one before it.
+    fn make_text(&mut self, k: u64, m: u64, kind: Kind) {
         let small = |width| if (1..=4).contains(&width) { width } else { 1 };
         let count = 1 << small(k);
         self.text.len = 0;
@@ -208,7 +211,7 @@ impl Drive {
                 self.address(n);
             }
             self.gap();
-            let value = self.pick(1 << small(m));
+            let value = self.pick((1 << small(m)) + kind.number());
             self.numeral(value);
         }
         self.gap();
@@ -219,9 +222,9 @@ impl Drive {
         if self.text.len == 0 {
             return;
         }
-        let kind = self.pick(10);
+        let way = self.pick(10);
         let p = self.pick(self.text.len as u64) as usize;
-        match kind {
+        match way {
             0 => self.text.len = p,
             1 | 2 => self.text.drop_byte(p),
             3 | 4 => self.text.double_byte(p),
@@ -234,9 +237,10 @@ impl Drive {
     }
 
     /// Reads the first `len` bytes of B; folds the answer and all cells in.
-    fn read(&mut self, k: u64, m: u64, len: usize, lent: usize) {
+    fn read(&mut self, k: u64, m: u64, kind: Kind, len: usize, lent: usize) {
         let text = &self.text.bytes[..len];
-        let Read { number, offset, n } = memory::read(k, m, text, &mut self.cells[..lent]);
+        let cells = &mut self.cells[..lent];
+        let Read { number, offset, n } = memory::read(k, m, kind, text, cells);
         for value in [number, offset, n] {
             self.fold(value);
         }
@@ -248,9 +252,9 @@ impl Drive {
 
     /// Writes into the first `room` bytes of B; folds the answer and all bytes
     /// in. Gives the answer.
-    fn write(&mut self, k: u64, m: u64, lent: usize, room: usize) -> Written {
+    fn write(&mut self, k: u64, m: u64, kind: Kind, lent: usize, room: usize) -> Written {
         let buffer = &mut self.text.bytes[..room];
-        let written = memory::write(k, m, &self.cells[..lent], buffer);
+        let written = memory::write(k, m, kind, &self.cells[..lent], buffer);
         for value in [written.number, written.length, written.n] {
             self.fold(value);
         }
@@ -264,21 +268,22 @@ impl Drive {
     pub fn next_round(&mut self) {
         let k = self.width();
         let m = self.width();
+        let kind = self.generator.kind();
         let lent = self.lent();
-        self.make_text(k, m);
-        self.read(k, m, self.text.len, lent);
+        self.make_text(k, m, kind);
+        self.read(k, m, kind, self.text.len, lent);
         for _ in 0..1 + self.pick(2) {
             self.damage();
         }
-        self.read(k, m, self.text.len, lent);
+        self.read(k, m, kind, self.text.len, lent);
         if self.pick(8) == 0 {
             let p = self.pick(64) as usize;
             self.cells[p] = self.pick(40) as u16;
         }
         let room = self.room();
-        let written = self.write(k, m, lent, room);
+        let written = self.write(k, m, kind, lent, room);
         if written.number == 0 {
-            self.read(k, m, written.length as usize, lent);
+            self.read(k, m, kind, written.length as usize, lent);
         }
     }
 }
@@ -300,8 +305,10 @@ pub fn counts_line(name: &str, numbers: &[u64], counts: &BTreeMap<u64, u64>) -> 
 }
 
 pub fn run() {
-    for (k, m) in TABLES {
-        println!("{}", table_line(k, m));
+    for kind in KINDS {
+        for (k, m) in TABLES {
+            println!("{}", table_line(k, m, kind));
+        }
     }
     let mut drive = Drive::new();
     for r in 1..=ROUNDS {

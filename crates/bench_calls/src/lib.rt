@@ -3,15 +3,15 @@
 ghost use mathlib.Core.Path.{_≡_};
 ghost use lib.ListN.{length};
 ghost use Rattle.units.specs.Refusals.{refusal, tableTests};
-ghost use Rattle.units.specs.Shapes.{shape};
 ghost use Rattle.table.specs.Build.{built};
 ghost use Rattle.table.specs.Lookup.{lookupReport};
 ghost use Rattle.survey.specs.Survey.{surveyReport};
 ghost use Rattle.verdict.specs.Check.{checkReport};
 ghost use Rattle.memory_text.specs.Write.{writeReport, writtenBytes};
 ghost use Rattle.memory_text.specs.Read.{readReport, readCells};
-ghost use Rattle.bench_calls.specs.Numbers.{checkNumbers, surveyNumbers, lookupNumbers, writeNumbers, readNumbers};
+ghost use Rattle.bench_calls.specs.Numbers.{shapeOf, checkNumbers, surveyNumbers, lookupNumbers, writeNumbers, readNumbers};
 use recip::CheckAnswer;
+use recip::Kind;
 use recip::LookupAnswer;
 use recip::ReadAnswer;
 use recip::Shape;
@@ -24,21 +24,31 @@ use recip::read_memory;
 use recip::survey_table;
 use recip::write_memory;
 
+// A table's shape: `one` says whether it is a table with one.
+fn shape_of(k: u32, m: u32, one: bool) -> Shape
+    ensures { λ r. ⌜ r ≡ shapeOf k m one ⌝ }
+{
+    if one {
+        return Shape::of(k, m, Kind::WithOne);
+    }
+    Shape::of(k, m, Kind::Plain)
+}
+
 // It answers the number itself.
 #[no_mangle]
-pub extern "C" fn quirelinnet_build(k: u32, m: u32, table: &mut [u16]) -> u32
-    ensures answer { λ r. ⌜ r ≡ refusal (tableTests (shape k m) (length (now (table .entry)))) .number ⌝ }
-    ensures cells { λ _. ⌜ now (table .exit) ≡ built (shape k m) (now (table .entry)) ⌝ }
+pub extern "C" fn quirelinnet_build(k: u32, m: u32, one: bool, table: &mut [u16]) -> u32
+    ensures answer { λ r. ⌜ r ≡ refusal (tableTests (shapeOf k m one) (length (now (table .entry)))) .number ⌝ }
+    ensures cells { λ _. ⌜ now (table .exit) ≡ built (shapeOf k m one) (now (table .entry)) ⌝ }
 {
-    build(Shape { k: k, m: m }, table).number()
+    build(shape_of(k, m, one), table).number()
 }
 
 // out: number, 1 for yes, n, its worst error, the least one.
 #[no_mangle]
-pub extern "C" fn quirelinnet_check(k: u32, m: u32, table: &[u16], out: &mut [u64; 5])
-    ensures { λ _. ⌜ now (out .exit) ≡ checkNumbers (checkReport (shape k m) (now (table .entry))) ⌝ }
+pub extern "C" fn quirelinnet_check(k: u32, m: u32, one: bool, table: &[u16], out: &mut [u64; 5])
+    ensures { λ _. ⌜ now (out .exit) ≡ checkNumbers (checkReport (shapeOf k m one) (now (table .entry))) ⌝ }
 {
-    match check_table(Shape { k: k, m: m }, table) {
+    match check_table(shape_of(k, m, one), table) {
         CheckAnswer::Yes => {
             *out = [0, 1, 0, 0, 0];
         }
@@ -56,10 +66,10 @@ pub extern "C" fn quirelinnet_check(k: u32, m: u32, table: &[u16], out: &mut [u6
 
 // out: number, worst error, n, side.
 #[no_mangle]
-pub extern "C" fn quirelinnet_survey(k: u32, m: u32, table: &[u16], out: &mut [u64; 4])
-    ensures { λ _. ⌜ now (out .exit) ≡ surveyNumbers (surveyReport (shape k m) (now (table .entry))) ⌝ }
+pub extern "C" fn quirelinnet_survey(k: u32, m: u32, one: bool, table: &[u16], out: &mut [u64; 4])
+    ensures { λ _. ⌜ now (out .exit) ≡ surveyNumbers (surveyReport (shapeOf k m one) (now (table .entry))) ⌝ }
 {
-    match survey_table(Shape { k: k, m: m }, table) {
+    match survey_table(shape_of(k, m, one), table) {
         SurveyAnswer::Surveyed(f) => {
             let side = f.side;
             *out = [0, f.worst.0, f.n.0 as u64, side.number() as u64];
@@ -75,10 +85,17 @@ pub extern "C" fn quirelinnet_survey(k: u32, m: u32, table: &[u16], out: &mut [u
 
 // out: number, s, n, j.
 #[no_mangle]
-pub extern "C" fn quirelinnet_look_up(k: u32, m: u32, x: u32, table: &[u16], out: &mut [u64; 4])
-    ensures { λ _. ⌜ now (out .exit) ≡ lookupNumbers (lookupReport (shape k m) x (now (table .entry))) ⌝ }
+pub extern "C" fn quirelinnet_look_up(
+    k: u32,
+    m: u32,
+    one: bool,
+    x: u32,
+    table: &[u16],
+    out: &mut [u64; 4],
+)
+    ensures { λ _. ⌜ now (out .exit) ≡ lookupNumbers (lookupReport (shapeOf k m one) x (now (table .entry))) ⌝ }
 {
-    match look_up(Shape { k: k, m: m }, x, table) {
+    match look_up(shape_of(k, m, one), x, table) {
         LookupAnswer::Found { s, n, j } => {
             *out = [0, s.0 as u64, n.0 as u64, j.0 as u64];
         }
@@ -96,14 +113,15 @@ pub extern "C" fn quirelinnet_look_up(k: u32, m: u32, x: u32, table: &[u16], out
 pub extern "C" fn quirelinnet_write_memory(
     k: u32,
     m: u32,
+    one: bool,
     table: &[u16],
     text: &mut [u8],
     out: &mut [u64; 3],
 )
-    ensures answer { λ _. ⌜ now (out .exit) ≡ writeNumbers (writeReport (shape k m) (now (table .entry)) (length (now (text .entry)))) ⌝ }
-    ensures bytes { λ _. ⌜ now (text .exit) ≡ writtenBytes (shape k m) (now (table .entry)) (now (text .entry)) ⌝ }
+    ensures answer { λ _. ⌜ now (out .exit) ≡ writeNumbers (writeReport (shapeOf k m one) (now (table .entry)) (length (now (text .entry)))) ⌝ }
+    ensures bytes { λ _. ⌜ now (text .exit) ≡ writtenBytes (shapeOf k m one) (now (table .entry)) (now (text .entry)) ⌝ }
 {
-    match write_memory(Shape { k: k, m: m }, table, text) {
+    match write_memory(shape_of(k, m, one), table, text) {
         WriteAnswer::Written(end) => {
             *out = [0, end.0 as u64, 0];
         }
@@ -121,14 +139,15 @@ pub extern "C" fn quirelinnet_write_memory(
 pub extern "C" fn quirelinnet_read_memory(
     k: u32,
     m: u32,
+    one: bool,
     text: &[u8],
     table: &mut [u16],
     out: &mut [u64; 3],
 )
-    ensures answer { λ _. ⌜ now (out .exit) ≡ readNumbers (readReport (shape k m) (now (text .entry)) (length (now (table .entry)))) ⌝ }
-    ensures cells { λ _. ⌜ now (table .exit) ≡ readCells (shape k m) (now (text .entry)) (now (table .entry)) ⌝ }
+    ensures answer { λ _. ⌜ now (out .exit) ≡ readNumbers (readReport (shapeOf k m one) (now (text .entry)) (length (now (table .entry)))) ⌝ }
+    ensures cells { λ _. ⌜ now (table .exit) ≡ readCells (shapeOf k m one) (now (text .entry)) (now (table .entry)) ⌝ }
 {
-    match read_memory(Shape { k: k, m: m }, text, table) {
+    match read_memory(shape_of(k, m, one), text, table) {
         ReadAnswer::Done => {
             *out = [0, 0, 0];
         }

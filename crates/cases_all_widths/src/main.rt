@@ -1,5 +1,5 @@
-// Builds and surveys the table of every pair of widths from 1 to 15, and writes a line for each:
-// "k m digest worst n side ties". The digest is that of the fields; worst, n and side are the
+// Builds and surveys the table of every pair of widths from 1 to 15, plain and then with one, and writes
+// a line for each: "k m digest worst n side ties", or "k m one ..". The digest is that of the fields; worst, n and side are the
 // survey's; ties counts the entries that have a second value with the same worst error. The file
 // `stdout` is not this program's output: the program in `second/`, which tries every value for every
 // interval, wrote it by `second widths`.
@@ -7,11 +7,12 @@ ghost use Prim.Native.Nat.{_≤_};
 use programs::column;
 use programs::digest_of;
 use programs::long_column;
-use programs::number;
+use programs::shape_named;
 use programs::text;
 use programs::zeroed;
 use recip::ErrorAnswer;
 use recip::Interval;
+use recip::Kind;
 use recip::Outcome;
 use recip::Shape;
 use recip::SurveyAnswer;
@@ -91,24 +92,27 @@ fn report(shape: Shape, cells: &[u16]) {
     column(ties(shape, table));
 }
 
-fn line(k: u32, m: u32) {
-    let shape = Shape::of(k, m);
+fn line(shape: Shape) {
     let mut cells = zeroed();
     let built: Outcome = build(shape, &mut cells);
-    number(k as u64);
-    column(m);
+    shape_named(shape);
     report(shape, &cells);
     text(b"\n");
 }
 
-fn lines_of(k: u32) {
+fn lines_of(k: u32, kind: Kind) {
     for m in 1..16 {
-        line(k, m);
+        line(Shape::of(k, m, kind));
+    }
+}
+
+fn tables(kind: Kind) {
+    for k in 1..16 {
+        lines_of(k, kind);
     }
 }
 
 fn main() {
-    for k in 1..16 {
-        lines_of(k);
-    }
+    tables(Kind::Plain);
+    tables(Kind::WithOne);
 }

@@ -9,9 +9,11 @@ use entry::entry_of;
 use programs::column;
 use programs::long_column;
 use programs::number;
+use programs::shape_named;
 use programs::text;
 use units::Error;
 use units::Interval;
+use units::Kind;
 use units::Shape;
 
 // k and m: below the widths, their ends, above them.
@@ -57,6 +59,9 @@ const FIELDS: [u16; 16] = [
     65535,
 ];
 
+// The same in tables with one, for m = 1 and 15.
+const FIELDS_WITH_ONE: [u16; 8] = [0, 2, 3, 65535, 0, 32768, 32769, 65535];
+
 fn signed(e: Error) {
     if e.is_negative() {
         text(b"-");
@@ -88,13 +93,12 @@ fn answer(a: ErrorAnswer) {
     }
 }
 
-fn edge(k: u32, m: u32, n: u32, f: u16) {
-    number(k as u64);
-    column(m);
+fn edge(shape: Shape, n: u32, f: u16) {
+    shape_named(shape);
     column(n);
     column(f as u32);
     text(b": ");
-    answer(entry_error(Shape::of(k, m), Interval(n), f));
+    answer(entry_error(shape, Interval(n), f));
     text(b"\n");
 }
 
@@ -105,10 +109,22 @@ fn edge_case(c: usize)
     let a = c / 64;
     let b = c / 16 % 4;
     edge(
-        WIDTHS[a],
-        WIDTHS[b],
+        Shape::of(WIDTHS[a], WIDTHS[b], Kind::Plain),
         PLACES[4 * a + c / 4 % 4],
         FIELDS[4 * b + c % 4],
+    );
+}
+
+// The same in tables with one, of the widths 1 and 15.
+fn one_case(c: usize)
+    requires { ⌜ c < 64 ⌝ }
+{
+    let a = 1 + c / 32;
+    let b = c / 16 % 2;
+    edge(
+        Shape::of(WIDTHS[a], WIDTHS[1 + b], Kind::WithOne),
+        PLACES[4 * a + c / 4 % 4],
+        FIELDS_WITH_ONE[4 * b + c % 4],
     );
 }
 
@@ -116,7 +132,11 @@ fn edge_case(c: usize)
 fn entry(m: u32, n: u32)
     requires { ⌜ (1 ≤ m) × ((m ≤ 6) × (n < 32)) ⌝ }
 {
-    let shape = Shape { k: 5, m: m };
+    let shape = Shape {
+        k: 5,
+        m: m,
+        kind: Kind::Plain,
+    };
     let f = best_field(shape, Interval(n));
     number(entry_of(shape, f).0 as u64);
     text(b"/");
@@ -154,6 +174,12 @@ fn edges() {
     }
 }
 
+fn edges_with_one() {
+    for c in 0..64 {
+        one_case(c);
+    }
+}
+
 fn rows() {
     for n in 0..32 {
         row(n);
@@ -162,5 +188,6 @@ fn rows() {
 
 fn main() {
     edges();
+    edges_with_one();
     rows();
 }

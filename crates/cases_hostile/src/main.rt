@@ -5,6 +5,7 @@
 // output: the program in `second/` wrote it by `second hostile`.
 ghost use Prim.Native.Nat.{_<_, _≤_};
 use programs::digest_of;
+use programs::drawn_kind;
 use programs::long_column;
 use programs::number;
 use programs::pick;
@@ -73,6 +74,7 @@ fn drawn(state: &mut u64) -> Inputs {
     let op = pick(state, 10);
     let k = width(state, 20, 6);
     let m = width(state, 20, 6);
+    let kind = drawn_kind(state);
     let h = small(state, 8);
     let b = small(state, 70);
     let n = small(state, 70);
@@ -81,7 +83,7 @@ fn drawn(state: &mut u64) -> Inputs {
     let lent = small(state, 65) as usize;
     Inputs {
         op: op,
-        shape: Shape::of(k, m),
+        shape: Shape::of(k, m, kind),
         h: h,
         b: b,
         n: n,
@@ -242,8 +244,10 @@ fn fold_tally(digest: &mut u64, t: Tally) {
     let f = t.finding;
     let side = f.side;
     let shape = t.shape;
+    let kind = shape.kind;
     fold_number(digest, shape.k);
     fold_number(digest, shape.m);
+    fold_number(digest, kind.ones());
     fold_number(digest, t.next.0);
     fold(digest, f.worst.0);
     fold_number(digest, f.n.0);

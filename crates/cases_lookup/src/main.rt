@@ -5,9 +5,10 @@ ghost use Prim.Native.Nat.{_<_};
 use programs::column;
 use programs::long_column;
 use programs::marked;
-use programs::number;
+use programs::shape_named;
 use programs::stir;
 use programs::text;
+use recip::Kind;
 use recip::LookupAnswer;
 use recip::Outcome;
 use recip::Shape;
@@ -76,11 +77,10 @@ fn every_divisor(shape: Shape, table: &[u16]) -> u64 {
     digest
 }
 
-// "k m digest"
-fn all(k: u32, m: u32) {
-    number(k as u64);
-    column(m);
-    let shape = Shape::of(k, m);
+// "k m digest", or "k m one digest"
+fn all(k: u32, m: u32, kind: Kind) {
+    let shape = Shape::of(k, m, kind);
+    shape_named(shape);
     let mut cells = marked();
     let built: Outcome = build(shape, &mut cells);
     long_column(every_divisor(shape, show_bank(k, 0, 0, &cells)));
@@ -102,14 +102,14 @@ fn look_in(shape: Shape, x: u32, lent: usize, cells: &[u16]) {
     answer(look_up(shape, x, &cells[0..lent]));
 }
 
-// "k m X cells: number s n j, number s n j", first in cells of 43981 and then in a built table
-fn look(k: u32, m: u32, x: u32, lent: usize) {
-    number(k as u64);
-    column(m);
+// "k m X cells: number s n j, number s n j", or "k m one X ..", first in cells of 43981 and then in a
+// built table
+fn look(k: u32, m: u32, kind: Kind, x: u32, lent: usize) {
+    let shape = Shape::of(k, m, kind);
+    shape_named(shape);
     column(x);
     long_column(lent as u64);
     text(b":");
-    let shape = Shape::of(k, m);
     let mut cells = marked();
     look_in(shape, x, lent, &cells);
     text(b",");
@@ -122,12 +122,14 @@ fn divisor_case(c: usize)
     requires { ⌜ c < 11 ⌝ }
 {
     let x = DIVISORS[c];
-    look(5, 5, x, 31);
-    look(5, 5, x, 32);
-    look(1, 15, x, 2);
-    look(15, 1, x, 32768);
-    look(0, 5, x, 32);
-    look(5, 16, x, 32);
+    look(5, 5, Kind::Plain, x, 31);
+    look(5, 5, Kind::Plain, x, 32);
+    look(1, 15, Kind::Plain, x, 2);
+    look(15, 1, Kind::Plain, x, 32768);
+    look(0, 5, Kind::Plain, x, 32);
+    look(5, 16, Kind::Plain, x, 32);
+    look(12, 3, Kind::WithOne, x, 4096);
+    look(5, 3, Kind::WithOne, x, 32);
 }
 
 fn divisors() {
@@ -136,9 +138,15 @@ fn divisors() {
     }
 }
 
+fn all_of(kind: Kind) {
+    all(1, 1, kind);
+    all(5, 5, kind);
+    all(15, 15, kind);
+    all(12, 3, kind);
+}
+
 fn main() {
-    all(1, 1);
-    all(5, 5);
-    all(15, 15);
+    all_of(Kind::Plain);
+    all_of(Kind::WithOne);
     divisors();
 }

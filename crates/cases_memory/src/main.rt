@@ -10,16 +10,19 @@ ghost use mathlib.Core.Path.{_≡_};
 ghost use lib.ListN.{length};
 use programs::column;
 use programs::digest_of;
+use programs::drawn_kind;
 use programs::labelled;
 use programs::long_column;
 use programs::number;
 use programs::pick;
+use programs::shape_named;
 use programs::stir;
 use programs::stir_bytes;
 use programs::stir_cells;
 use programs::text;
 use programs::width;
 use programs::zeroed;
+use recip::Kind;
 use recip::Outcome;
 use recip::ReadAnswer;
 use recip::Shape;
@@ -134,11 +137,10 @@ fn read_back(shape: Shape, bytes: &[u8], length: usize) {
     read_into(shape, &bytes[0..length], &mut cells);
 }
 
-// "k m number length n digest number offset n digest"
-fn table(k: u32, m: u32) {
-    number(k as u64);
-    column(m);
-    let shape = Shape::of(k, m);
+// "k m number length n digest number offset n digest", or "k m one .."
+fn table(k: u32, m: u32, kind: Kind) {
+    let shape = Shape::of(k, m, kind);
+    shape_named(shape);
     let mut cells = zeroed();
     let built: Outcome = build(shape, &mut cells);
     let mut bytes = filled();
@@ -247,28 +249,34 @@ fn leading_zeros(state: &mut u64, bytes: &mut [u8], len: usize) -> usize {
     }
 }
 
-// A number of one digit, after as many as two zeros.
-fn numeral(state: &mut u64, bytes: &mut [u8], len: usize, value: u64) -> usize
-    requires { ⌜ value < 16 ⌝ }
-{
-    let next = leading_zeros(state, bytes, len);
+// The first of two digits, where there are two: 16 is the largest number written.
+fn sixteens(bytes: &mut [u8], len: usize, value: u64) -> usize {
+    if value < 16 {
+        return len;
+    }
+    push(bytes, len, 49)
+}
+
+// A number of at most 16, after as many as two zeros.
+fn numeral(state: &mut u64, bytes: &mut [u8], len: usize, value: u64) -> usize {
+    let zeros = leading_zeros(state, bytes, len);
+    let next = sixteens(bytes, zeros, value);
+    let digit = value % 16;
     match pick(state, 4) {
-        0 => push(bytes, next, upper(value)),
-        1 => push_two(bytes, next, lower(value), 95),
-        _ => push(bytes, next, lower(value)),
+        0 => push(bytes, next, upper(digit)),
+        1 => push_two(bytes, next, lower(digit), 95),
+        _ => push(bytes, next, lower(digit)),
     }
 }
 
-fn push_address(state: &mut u64, bytes: &mut [u8], len: usize, n: u64) -> usize
-    requires { ⌜ n < 16 ⌝ }
-{
+fn push_address(state: &mut u64, bytes: &mut [u8], len: usize, n: u64) -> usize {
     let from = gap(state, bytes, len);
     let next = push(bytes, from, 64);
     numeral(state, bytes, next, n)
 }
 
 fn push_value(state: &mut u64, bytes: &mut [u8], len: usize, fields: u64) -> usize
-    requires { ⌜ (0 < fields) × (fields ≤ 16) ⌝ }
+    requires { ⌜ 0 < fields ⌝ }
 {
     let from = gap(state, bytes, len);
     let value = pick(state, fields);
@@ -288,9 +296,7 @@ fn size_of(w: u32) -> u64
 }
 
 // The address at which the text begins. It may be left out where it is 0.
-fn push_start(state: &mut u64, bytes: &mut [u8], first: u64) -> usize
-    requires { ⌜ first < 16 ⌝ }
-{
+fn push_start(state: &mut u64, bytes: &mut [u8], first: u64) -> usize {
     let left_out = pick(state, 2);
     if first == 0 {
         if left_out != 0 {
@@ -312,7 +318,7 @@ fn push_return(state: &mut u64, bytes: &mut [u8], len: usize, n: u64, c: u64) ->
 
 // The value of cell n, which is the c-th that is given.
 fn push_cell(state: &mut u64, bytes: &mut [u8], len: usize, n: u64, c: u64, fields: u64) -> usize
-    requires { ⌜ (0 < fields) × (fields ≤ 16) ⌝ }
+    requires { ⌜ 0 < fields ⌝ }
 {
     let next = push_return(state, bytes, len, n, c);
     push_value(state, bytes, next, fields)
@@ -321,7 +327,8 @@ fn push_cell(state: &mut u64, bytes: &mut [u8], len: usize, n: u64, c: u64, fiel
 // A good text of a shape, from some cell on and round to the one before it. Gives its length.
 fn make_text(state: &mut u64, bytes: &mut [u8], shape: Shape) -> usize {
     let count = size_of(shape.k);
-    let fields = size_of(shape.m);
+    let kind = shape.kind;
+    let fields = size_of(shape.m) + kind.ones() as u64;
     let first = pick(state, count);
     let mut len = push_start(state, bytes, first);
     for c in 0..count {
@@ -468,9 +475,10 @@ fn write(
 fn drawn(state: &mut u64) -> Inputs {
     let k = width(state, 30, 4);
     let m = width(state, 30, 4);
+    let kind = drawn_kind(state);
     let lent = lent_cells(state);
     Inputs {
-        shape: Shape::of(k, m),
+        shape: Shape::of(k, m, kind),
         lent: lent,
     }
 }
@@ -609,11 +617,17 @@ fn drive() {
     counted_writes(&writes);
 }
 
+fn tables(kind: Kind) {
+    table(1, 1, kind);
+    table(5, 6, kind);
+    table(10, 4, kind);
+    table(12, 13, kind);
+    table(15, 15, kind);
+    table(12, 3, kind);
+}
+
 fn main() {
-    table(1, 1);
-    table(5, 6);
-    table(10, 4);
-    table(12, 13);
-    table(15, 15);
+    tables(Kind::Plain);
+    tables(Kind::WithOne);
     drive();
 }

@@ -5,6 +5,7 @@ ghost use Prim.Native.Nat.{_<_, _≤_};
 use programs::column;
 use programs::labelled;
 use programs::long_column;
+use programs::shape_named;
 use programs::text;
 use programs::zeroed;
 use survey::Finding;
@@ -13,6 +14,7 @@ use survey::Tally;
 use survey::TallyAnswer;
 use table::build;
 use units::Interval;
+use units::Kind;
 use units::Outcome;
 use units::Shape;
 use units::Side;
@@ -102,7 +104,7 @@ fn line_of_table_6(k: u32, m: u32) {
     }
     labelled(b"k=", k as u64);
     labelled(b" g=", (m - k) as u64);
-    long_column(worst_of(Shape::of(k, m)).worst.0);
+    long_column(worst_of(Shape::of(k, m, Kind::Plain)).worst.0);
     labelled(b"/2^", (k + m + 1) as u64);
     text(b"\n");
 }
@@ -134,19 +136,21 @@ fn table_7(k: u32)
     requires { ⌜ k ≤ 15 ⌝ }
 {
     labelled(b"k=", k as u64);
-    chopped(k, worst_of(Shape::of(k, k)).n.0);
+    chopped(k, worst_of(Shape::of(k, k, Kind::Plain)).n.0);
     if k < 15 {
-        chopped(k, worst_of(Shape::of(k, k + 1)).n.0);
+        chopped(k, worst_of(Shape::of(k, k + 1, Kind::Plain)).n.0);
     }
     text(b"\n");
 }
 
 // The answers of all surveys and of the check on the same cells.
 fn all_on(k: u32, m: u32, h: u32, b: u32, cells: &[u16]) {
-    let shape = Shape::of(k, m);
-    text(b"on");
-    column(k);
-    column(m);
+    all_on_shape(Shape::of(k, m, Kind::Plain), h, b, cells);
+}
+
+fn all_on_shape(shape: Shape, h: u32, b: u32, cells: &[u16]) {
+    text(b"on ");
+    shape_named(shape);
     column(h);
     column(b);
     long_column(cells.len() as u64);
@@ -167,7 +171,7 @@ fn damaged(at: usize)
     requires { ⌜ at < 32 ⌝ }
 {
     let mut cells = [0u16; 32];
-    let built: Outcome = build(Shape::of(5, 5), &mut cells);
+    let built: Outcome = build(Shape::of(5, 5, Kind::Plain), &mut cells);
     cells[at] = 32;
     cells[(at + 31) % 32] = 0;
     all_on(5, 5, 1, 0, &cells);
@@ -184,7 +188,7 @@ fn refused() {
     all_on(5, 0, 0, 0, &cells);
     all_on(16, 16, 0, 0, &cells);
     all_on(6, 5, 3, 7, &cells);
-    let built: Outcome = build(Shape::of(5, 15), &mut cells);
+    let built: Outcome = build(Shape::of(5, 15, Kind::Plain), &mut cells);
     all_on(5, 15, 0, 0, &cells);
     all_on(5, 15, 2, 3, &cells);
     all_on(5, 15, 2, 4, &cells);
@@ -196,9 +200,8 @@ fn refused() {
 }
 
 fn state(t: Tally) {
-    let shape = t.shape;
-    column(shape.k);
-    column(shape.m);
+    text(b" ");
+    shape_named(t.shape);
     column(t.next.0);
     let f = t.finding;
     finding(f);
@@ -229,7 +232,7 @@ fn taken(a: TallyAnswer) {
 // kept: it is not the entry's where a field is taken, and not 0 where the call is refused.
 fn forged(k: u32, m: u32, next: u32, worst: u64, side: Side, f: u16) {
     let tally = Tally {
-        shape: Shape::of(k, m),
+        shape: Shape::of(k, m, Kind::Plain),
         next: Interval(next),
         finding: Finding {
             worst: Worst(worst),
@@ -243,9 +246,12 @@ fn forged(k: u32, m: u32, next: u32, worst: u64, side: Side, f: u16) {
 
 fn tallies() {
     text(b"tally");
-    taken(Tally::start(Shape::of(5, 5), Interval(8)).take(19));
+    taken(Tally::start(Shape::of(5, 5, Kind::Plain), Interval(8)).take(19));
     text(b"tally");
-    taken(Tally::start(Shape::of(4294967295, 4294967295), Interval(4294967295)).take(65535));
+    taken(Tally::start(
+        Shape::of(4294967295, 4294967295, Kind::Plain),
+        Interval(4294967295),
+    ).take(65535));
     forged(15, 15, 32767, 0, Side::Left, 32767);
     forged(15, 15, 32767, 18446744073709551615, Side::Left, 32767);
     forged(15, 15, 32767, 0, Side::Right, 32768);
@@ -254,6 +260,51 @@ fn tallies() {
     forged(0, 16, 4294967295, 0, Side::Right, 65535);
     forged(5, 5, 8, 42, Side::Left, 19);
     forged(5, 5, 8, 43, Side::Left, 19);
+}
+
+fn handed_back(a: TallyAnswer) -> Tally {
+    match a {
+        TallyAnswer::Taken(t) => t,
+        TallyAnswer::TooWide(_, t) => t,
+        TallyAnswer::Refused(_, t) => t,
+    }
+}
+
+fn handed_on(tally: Tally, f: u16) -> Tally {
+    text(b"tally");
+    let answer = tally.take(f);
+    taken(answer);
+    handed_back(answer)
+}
+
+// A tally of a table with one takes 1.0 as often as it comes, and no field above it.
+fn tally_with_one() {
+    let shape = Shape::of(5, 5, Kind::WithOne);
+    let first = handed_on(Tally::start(shape, Interval(0)), 32);
+    let second = handed_on(first, 32);
+    handed_on(second, 33);
+}
+
+// "12 3 one 3856/65536": document 02's worst errors.
+fn worst_line(shape: Shape) {
+    shape_named(shape);
+    long_column(worst_of(shape).worst.0);
+    text(b"/65536\n");
+}
+
+// A built table of (4,3) with one: its first entry is 1.0, and 15/16 is as good.
+fn with_one() {
+    let shape = Shape::of(4, 3, Kind::WithOne);
+    let mut cells = [0u16; 16];
+    let built: Outcome = build(shape, &mut cells);
+    all_on_shape(shape, 1, 0, &cells);
+    all_on(4, 3, 1, 1, &cells);
+    cells[0] = 7;
+    all_on_shape(shape, 1, 0, &cells);
+    cells[15] = 8;
+    all_on_shape(shape, 1, 1, &cells);
+    cells[15] = 9;
+    all_on_shape(shape, 1, 1, &cells);
 }
 
 fn lines_of_table_6() {
@@ -276,4 +327,8 @@ fn main() {
     damaged(31);
     refused();
     tallies();
+    worst_line(Shape::of(12, 3, Kind::Plain));
+    worst_line(Shape::of(12, 3, Kind::WithOne));
+    with_one();
+    tally_with_one();
 }

@@ -1,4 +1,4 @@
-// Runs the calls on tables at the ends of their inputs. Every call finds a buffer of 32,769 cells
+// Runs the calls on plain tables at the ends of their inputs. Every call finds a buffer of 32,769 cells
 // that all hold 43981; after it the program shows how many cells differ from that, and a digest of
 // them all. The file `stdout` is not this program's output: it is worked out from document 01's
 // definitions, with the best value of each interval found by comparing worst errors.
@@ -12,6 +12,7 @@ use table::build;
 use table::build_bank;
 use table::show_bank;
 use table::show_bank_number;
+use units::Kind;
 use units::Outcome;
 use units::Shape;
 
@@ -55,7 +56,7 @@ fn lend_to_build(k: u32, m: u32, lent: usize, cells: &mut [u16]) {
     column(m);
     long_column(lent as u64);
     text(b":");
-    let answer = build(Shape::of(k, m), &mut cells[0..lent]);
+    let answer = build(Shape::of(k, m, Kind::Plain), &mut cells[0..lent]);
     end(answer.number(), cells);
 }
 
@@ -76,7 +77,7 @@ fn lend_to_bank(h: u32, b: u32, lent: usize, cells: &mut [u16]) {
     column(b);
     long_column(lent as u64);
     text(b":");
-    let answer = build_bank(Shape::of(5, 5), h, b, &mut cells[0..lent]);
+    let answer = build_bank(Shape::of(5, 5, Kind::Plain), h, b, &mut cells[0..lent]);
     end(answer.number(), cells);
 }
 
@@ -93,7 +94,7 @@ fn show(h: u32, b: u32, cells: &mut [u16]) {
     column(h);
     column(b);
     text(b":");
-    let built: Outcome = build(Shape::of(5, 5), cells);
+    let built: Outcome = build(Shape::of(5, 5, Kind::Plain), cells);
     column(show_bank_number(5, h, b, cells).number());
     let bank = show_bank(5, h, b, cells);
     long_column(bank.len() as u64);

@@ -7,6 +7,7 @@ pub mod Nearest
 pub mod Best
 pub mod Fields
 pub mod Table
+pub mod Kinds
 pub mod Good
 pub mod Ceiling
 pub mod Narrowing

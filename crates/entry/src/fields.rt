@@ -21,9 +21,10 @@ pub fn fields_of(shape: Shape) -> Fields
     ensures { λ r. ⌜ (r .first .0 ≡ 2 ^ shape .m) × (r .end ≡ fieldsEnd shape) ⌝ }
 {
     let size = small_power(shape.m);
+    let kind = shape.kind;
     Fields {
         first: Entry(size),
-        end: size,
+        end: size + kind.ones(),
     }
 }
 

@@ -9,6 +9,7 @@ use programs::labelled;
 use programs::text;
 use recip::CheckAnswer;
 use recip::Interval;
+use recip::Kind;
 use recip::LookupAnswer;
 use recip::Outcome;
 use recip::Refusal;
@@ -21,20 +22,28 @@ use recip::check_table;
 use recip::look_up;
 use recip::survey_table;
 
-// A family of cards: k bits of the divisor in, m bits of the reciprocal out. Its errors are counted
-// in parts of a whole, 2^(k+m+1).
+// A family of cards: k bits of the divisor in, m bits of the reciprocal out, and no wire for 1.0. Its
+// errors are counted in parts of a whole, 2^(k+m+1).
 struct Card {
     shape: Shape,
     whole: u64,
 }
 
 const NARROW: Card = Card {
-    shape: Shape { k: 5, m: 5 },
+    shape: Shape {
+        k: 5,
+        m: 5,
+        kind: Kind::Plain,
+    },
     whole: 2048,
 };
 
 const WIDE: Card = Card {
-    shape: Shape { k: 6, m: 7 },
+    shape: Shape {
+        k: 6,
+        m: 7,
+        kind: Kind::Plain,
+    },
     whole: 16384,
 };
 

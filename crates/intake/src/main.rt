@@ -1,4 +1,4 @@
-// The program `intake`: it reads a line with the widths of a table, in the listing's form, and after it
+// The program `intake`: it reads a line with the shape of a table, in the listing's form, and after it
 // a memory text, reads the table out of the text, checks it, and writes one line:
 //
 //     passes                    every entry has the least worst error
@@ -30,10 +30,10 @@ use recip::read_memory;
 const LONGEST_TEXT: usize = 1048576;
 
 // Room for the longest line, the longest text, and the byte more by which a longer one is told.
-fn blank() -> [u8; 1048583]
-    ensures { λ r. ⌜ 1048583 ≡ length r ⌝ }
+fn blank() -> [u8; 1048587]
+    ensures { λ r. ⌜ 1048587 ≡ length r ⌝ }
 {
-    [0; 1048583]
+    [0; 1048587]
 }
 
 fn refused(r: Refusal) {
@@ -99,16 +99,12 @@ fn ends_line(input: &[u8], at: usize) -> bool {
     input[at] == 10
 }
 
-// The place after the first line, if it has 4 to 6 bytes as those of the listing's form have, or 0.
+// The place after the first line, if it has 4 to 10 bytes as those of the listing's form have, or 0.
 fn line_end(input: &[u8]) -> usize {
-    if ends_line(input, 3) {
-        return 4;
-    }
-    if ends_line(input, 4) {
-        return 5;
-    }
-    if ends_line(input, 5) {
-        return 6;
+    for at in 3..10 {
+        if ends_line(input, at) {
+            return at + 1;
+        }
     }
     0
 }
@@ -119,7 +115,7 @@ fn answer(input: &[u8]) {
         return;
     }
     match read_line(&input[0..end]) {
-        Reading::Widths(shape) => take_if_short(shape, &input[end..]),
+        Reading::Asks(shape) => take_if_short(shape, &input[end..]),
         Reading::Refused(r) => refused(r),
     }
 }

@@ -1,11 +1,11 @@
-// The listing program: it reads the widths from standard input and writes the best table of those
-// widths, its errors and its survey, or the refusal. What it writes is in `listing_text`, proved byte
+// The listing program: it reads the shape of a table from standard input and writes the best table of
+// that shape, its errors and its survey, or the refusal. What it writes is in `listing_text`, proved byte
 // for byte; here is the order of the calls. `send` alone writes, and lines of that text only.
 ghost use mathlib.Core.Path.{_≡_};
 ghost use lib.ListN.{length};
 ghost use Rattle.survey.specs.Tally.{figuresOf};
 ghost use Rattle.units.specs.Refusals.{refusalNumber};
-ghost use Rattle.listing_line.specs.Line.{lineRead, widths};
+ghost use Rattle.listing_line.specs.Line.{asks, lineRead};
 ghost use Rattle.listing_text.specs.Inner.Pages.{Listed, IsPart};
 ghost use Rattle.listing_text.specs.Listing.{refusedText, tableText, textFor};
 use libc::STDIN_FILENO;
@@ -76,7 +76,7 @@ fn never()
 {}
 
 fn list(input: &[u8], shape: Shape)
-    requires { ⌜ lineRead (now input) ≡ widths shape ⌝ }
+    requires { ⌜ lineRead (now input) ≡ asks shape ⌝ }
 {
     let mut cells = zeroed();
     let table: &mut [u16] = &mut cells;
@@ -90,14 +90,14 @@ fn list(input: &[u8], shape: Shape)
     }
 }
 
-// The longest line has 6 bytes, so 8 are enough to tell a line from any other input
-// (`eight-bytes-decide`).
+// The longest line has 10 bytes, so 12 are enough to tell a line from any other input
+// (`twelve-bytes-decide`).
 fn main() {
-    let mut input = [0u8; 8];
+    let mut input = [0u8; 12];
     let got = io::read_full(STDIN_FILENO, &mut input);
     let line = &input[..got];
     match read_line(line) {
-        Reading::Widths(shape) => list(line, shape),
+        Reading::Asks(shape) => list(line, shape),
         Reading::Refused(r) => refuse(line, r),
     }
 }

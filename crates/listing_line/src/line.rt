@@ -1,15 +1,18 @@
 // The input of the listing, document 01: "one or two decimal digits, one space, one or two digits,
-// one newline, then the end".
+// one newline, then the end"; and document 02: "an optional third word "one" after one space".
 ghost use mathlib.Core.Path.{_≡_};
 ghost use Prim.Native.Nat.{_-_, _<_};
 ghost use lib.Dec.{eqb};
-ghost use Rattle.listing_line.specs.Line.{byteAt, isDigit, wordEnd, wordValue, formed, reported, lineRead};
+ghost use lib.ListN.{length};
+ghost use Rattle.listing_line.specs.Line.{byteAt, isDigit, wordEnd, wordValue, oneAt, kindAt, kindEnd, kindWord, formed, reported, lineRead};
+use units::Kind;
 use units::Refusal;
 use units::Shape;
 
-// What the input says: the two widths, in any range, or the refusal of its form.
+// What the input says: the shape of the table that it asks for, with widths in any range, or the
+// refusal of its form.
 pub enum Reading {
-    Widths(Shape),
+    Asks(Shape),
     Refused(Refusal),
 }
 
@@ -75,28 +78,56 @@ fn word_value(s: &[u8], at: usize) -> u32
     first
 }
 
-// Whether the input has the form, with a the place after the first digits and b that after the second.
-// It makes every test, whatever the others say, so that it has one way out and a short proof.
-fn is_formed(s: &[u8], a: usize, b: usize) -> bool
-    requires { ⌜ (a < 100) × (b < 100) ⌝ }
-    ensures { λ r. ⌜ r ≡ formed (now (s .entry)) a b ⌝ }
+// Whether " one" stands at a place. Here, and where the form is tested, every test is made, whatever
+// the others say: so there is one way out, and a short proof.
+fn one_at(s: &[u8], at: usize) -> bool
+    requires { ⌜ at < 100 ⌝ }
+    ensures { λ r. ⌜ r ≡ oneAt (now (s .entry)) at ⌝ }
+{
+    is_at(s, at, 32) & (is_at(s, at + 1, 111) & (is_at(s, at + 2, 110) & is_at(s, at + 3, 101)))
+}
+
+// The kind that is said at a place: plain where nothing is.
+fn kind_at(s: &[u8], at: usize) -> Kind
+    requires { ⌜ at < 100 ⌝ }
+    ensures { λ r. ⌜ r ≡ kindAt (now (s .entry)) at ⌝ }
+{
+    if one_at(s, at) {
+        return Kind::WithOne;
+    }
+    Kind::Plain
+}
+
+// How many bytes say a kind.
+fn word_length(kind: Kind) -> usize
+    ensures { λ r. ⌜ r ≡ length (kindWord kind) ⌝ }
+{
+    match kind {
+        Kind::Plain => 0,
+        Kind::WithOne => 4,
+    }
+}
+
+// Whether the input has the form, with a the place after the first digits and c that after the kind.
+fn is_formed(s: &[u8], a: usize, c: usize) -> bool
+    requires { ⌜ (a < 100) × (c < 100) ⌝ }
+    ensures { λ r. ⌜ r ≡ formed (now (s .entry)) a c ⌝ }
 {
     digit_at(s, 0)
-        & (is_at(s, a, 32) & (digit_at(s, a + 1) & (is_at(s, b, 10) & (s.len() == b + 1))))
+        & (is_at(s, a, 32) & (digit_at(s, a + 1) & (is_at(s, c, 10) & (s.len() == c + 1))))
 }
 
 // "The program reads standard input: one or two decimal digits, one space, one or two digits, one
-// newline, then the end. Leading zeros are allowed. Otherwise it writes "refused 7"."
+// newline, then the end. Leading zeros are allowed. Otherwise it writes "refused 7"." Before the
+// newline " one" may stand.
 pub fn read_line(input: &[u8]) -> Reading
     ensures { λ r. ⌜ reported r ≡ lineRead (now (input .entry)) ⌝ }
 {
     let a = word_end(input, 0);
     let b = word_end(input, a + 1);
-    if is_formed(input, a, b) {
-        return Reading::Widths(Shape {
-            k: word_value(input, 0),
-            m: word_value(input, a + 1),
-        });
+    let kind = kind_at(input, b);
+    if is_formed(input, a, b + word_length(kind)) {
+        return Reading::Asks(Shape::of(word_value(input, 0), word_value(input, a + 1), kind));
     }
     Reading::Refused(Refusal::Line)
 }

@@ -46,13 +46,13 @@ tableText s = record { count = lineCount (s .k); line = lineOf s }
 abbrev pub refusedText : ℕ → Lines
 refusedText number = record { count = 1; line = λ t. refusedLine number }
 
--- "It keeps one table of 32,768 cells": the text for two widths, or that of their refusal
-abbrev pub widthsText : Shape → Lines
-widthsText s = answer (λ (b : Reply). refusedText (b .number)) (tableText s) (tableTests s 32768)
+-- "It keeps one table of 32,768 cells": the text for a shape, or that of its refusal
+abbrev pub shapeText : Shape → Lines
+shapeText s = answer (λ (b : Reply). refusedText (b .number)) (tableText s) (tableTests s 32768)
 
 -- the text for what was read. "In the listing 7 comes before all others."
 unfoldable pub textOf : Line → Lines
-textOf l = cond (eqb (l .number) 0) (widthsText (l .shape)) (refusedText (l .number))
+textOf l = cond (eqb (l .number) 0) (shapeText (l .shape)) (refusedText (l .number))
 
 -- the text for an input: by its lines, and whole
 abbrev pub textFor : List ℕ → Lines

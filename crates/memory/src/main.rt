@@ -1,5 +1,5 @@
-// The program `memory`: it reads the widths from standard input, in the listing's form, and writes the
-// memory text of the best table of those widths, or the refusal.
+// The program `memory`: it reads the shape of a table from standard input, in the listing's form, and
+// writes the memory text of the best table of that shape, or the refusal.
 ghost use mathlib.Core.Path.{_≡_};
 ghost use lib.ListN.{length, take};
 ghost use Rattle.memory_text.specs.Write.{memoryText};
@@ -62,12 +62,12 @@ fn write_best(shape: Shape) {
     }
 }
 
-// The longest line has 6 bytes, so 8 are enough to tell a line from any other input.
+// The longest line has 10 bytes, so 12 are enough to tell a line from any other input.
 fn main() {
-    let mut input = [0u8; 8];
+    let mut input = [0u8; 12];
     let got = io::read_full(STDIN_FILENO, &mut input);
     match read_line(&input[..got]) {
-        Reading::Widths(shape) => write_best(shape),
+        Reading::Asks(shape) => write_best(shape),
         Reading::Refused(r) => refuse(r),
     }
 }

@@ -4,6 +4,7 @@ use mathlib.Core.List.{List, [], _∷_, _++_}
 use mathlib.Core.Bool.{cond}
 use lib.Dec.{ltb}
 use lib.ListN.{length, take, drop}
+use Rattle.units.specs.Kinds.{fieldBits}
 use Rattle.units.specs.Refusals.{Reply, reply, Test, answer, refusalNumber, shortText}
 use Rattle.units.specs.declared.shapes.Shape.{Shape}
 use Rattle.table.specs.Wide.{fieldTests}
@@ -20,9 +21,9 @@ abbrev pub hexDigits : ℕ → ℕ → List ℕ
 hexDigits zero f = []
 hexDigits (suc count) f = hexDigits count (f / 16) ++ (hexDigit (f % 16) ∷ [])
 
--- "as many digits as m bits need", four bits a digit
+-- "as many digits as m bits need", and in tables with one as m+1 bits need, four bits a digit
 abbrev pub digitCount : Shape → ℕ
-digitCount s = (s .m + 3) / 4
+digitCount s = (fieldBits (s .kind) (s .m) + 3) / 4
 
 -- "a newline after each"
 abbrev pub lineOf : ℕ → ℕ → List ℕ

@@ -3,7 +3,8 @@ ghost use mathlib.Core.Path.{_≡_};
 ghost use mathlib.Core.List.{_++_};
 ghost use Prim.Native.Nat.{suc, _-_, _*_, _≤_, _<_};
 ghost use lib.ListN.{length, drop};
-ghost use Rattle.memory_text.specs.Write.{hexDigit, lineOf, linesOf, reported, writeReport, writtenBytes};
+ghost use Rattle.units.specs.Inner.Good.{GoodWidths};
+ghost use Rattle.memory_text.specs.Write.{digitCount, hexDigit, lineOf, linesOf, reported, writeReport, writtenBytes};
 use table::FieldsOutcome;
 use table::whole_fields;
 use units::Interval;
@@ -27,6 +28,15 @@ fn hex_digit(digit: u16) -> u8
     ensures { λ r. ⌜ r ≡ hexDigit digit ⌝ }
 {
     HEX[digit as usize]
+}
+
+// How many digits a field has, four bits a digit.
+fn digit_count(shape: Shape) -> usize
+    requires { ⌜ GoodWidths shape ⌝ }
+    ensures { λ r. ⌜ r ≡ digitCount shape ⌝ }
+{
+    let kind = shape.kind;
+    (shape.m + kind.ones() + 3) as usize / 4
 }
 
 // Writes the line of a field into bytes that it fills: the newline, and the digits from the last to the
@@ -61,7 +71,7 @@ fn put_lines(count: usize, cells: &[u16], text: &mut [u8])
 }
 
 // "one field per line, a newline after each, lower-case hex, as many digits as m bits need, index order;
-// it gives the length, and bytes past the text stay."
+// it gives the length, and bytes past the text stay." In tables with one as many as m+1 bits need.
 pub fn write_memory(shape: Shape, table: &[u16], text: &mut [u8]) -> WriteAnswer
     ensures answer { λ r. ⌜ reported r ≡ writeReport shape (now (table .entry)) (length (now (text .entry))) ⌝ }
     ensures bytes { λ _. ⌜ now (text .exit) ≡ writtenBytes shape (now (table .entry)) (now (text .entry)) ⌝ }
@@ -70,8 +80,8 @@ pub fn write_memory(shape: Shape, table: &[u16], text: &mut [u8]) -> WriteAnswer
         FieldsOutcome::Refused(r) => WriteAnswer::Refused(r),
         FieldsOutcome::TooWide(n) => WriteAnswer::TooWide(n),
         FieldsOutcome::Done => {
+            let count = digit_count(shape);
             let size = power(shape.k) as usize;
-            let count = (shape.m as usize + 3) / 4;
             let length = size * (count + 1);
             if text.len() < length {
                 return WriteAnswer::Refused(Refusal::ShortText);

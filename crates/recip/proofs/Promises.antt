@@ -1,6 +1,7 @@
 pub mod Demand1
 pub mod Demand2
 pub mod Demand3
+pub mod Kinds
 pub mod Calls
 pub mod Unused
 pub mod Unique

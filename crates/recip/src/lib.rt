@@ -4,10 +4,11 @@
 
 // The kinds of numbers: n of an interval, j of an entry, an error with its sign, and its size; s of a
 // divisor's shift; the side of an entry at which its error is larger; the offset of a byte in a text;
-// and the refusal numbers.
+// the shape of a table and its kind, plain or with one; and the refusal numbers.
 pub use units::Entry;
 pub use units::Error;
 pub use units::Interval;
+pub use units::Kind;
 pub use units::Offset;
 pub use units::Outcome;
 pub use units::Refusal;

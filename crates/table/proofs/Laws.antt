@@ -6,6 +6,7 @@ pub mod Located
 pub mod Whole
 pub mod Past
 pub mod Built
+pub mod Kinds
 pub mod AnyOrder
 pub mod Shown
 pub mod First

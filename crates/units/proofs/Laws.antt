@@ -1,5 +1,6 @@
 pub mod Order
 pub mod Powers
+pub mod Kinds
 pub mod Tests
 pub mod Good
 pub mod OneToOne

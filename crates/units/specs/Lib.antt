@@ -1,4 +1,5 @@
 pub mod Sides
+pub mod Kinds
 pub mod Shapes
 pub mod Refusals
 pub mod Inner

@@ -1,6 +1,7 @@
-// The kinds of numbers that a reciprocal table is counted in, the shape of a table, the numbers by
-// which a call is refused, and powers of two. Every crate above stands on this one.
+// The kinds of numbers that a reciprocal table is counted in, the kinds and the shape of a table, the
+// numbers by which a call is refused, and powers of two. Every crate above stands on this one.
 mod counts;
+mod kinds;
 mod powers;
 mod refusals;
 mod shapes;
@@ -13,6 +14,7 @@ pub use counts::Offset;
 pub use counts::Shift;
 pub use counts::Side;
 pub use counts::Worst;
+pub use kinds::Kind;
 pub use powers::power;
 pub use powers::small_power;
 pub use refusals::Outcome;

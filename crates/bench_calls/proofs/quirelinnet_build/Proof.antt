@@ -7,8 +7,9 @@ use Rattle.bench_calls.proofs.quirelinnet_build.Tie as tie
 
 returns : tie.Need-returns
 returns c =
-    let build = c .before .before .before .build .ensures in
+    let after = c .before .before .before in
+    let build = rw (after .before .before .shape-of .ensures) at (after .build .ensures) in
     (c .number .ensures ∙ ap (λ (b : Reply). b .number) (build .0), build .1)
 
 pub quirelinnet-build-spec : {M : Type 1} → statement M
-quirelinnet-build-spec = tie.close (tie.spec (λ c κs. search needs) (λ c κs. search needs) (λ c. search needs) returns)
+quirelinnet-build-spec = tie.close (tie.spec (λ c κs. search needs) (λ c κs. search needs) (λ c κs. search needs) (λ c. search needs) returns)

@@ -9,49 +9,57 @@ use Rattle.bench_calls.proofs.quirelinnet_read_memory.Tie as tie
 returns : tie.Need-returns
 returns c =
     let told = c .before in
-    let read = told .before .before .before .before in
-    (numbers-told reported readNumbers (told .enum-told .given .1) (read .read-memory .ensures .0), read .read-memory .ensures .1)
+    let after = told .before .before .before .before in
+    let read = rw (after .before .before .shape-of .ensures) at (after .read-memory .ensures) in
+    (numbers-told reported readNumbers (told .enum-told .given .1) (read .0), read .1)
 
 returns-2 : tie.Need-returns-2
 returns-2 c =
     let told = c .before .before in
-    let read = told .before .before .before .before in
-    (numbers-told reported readNumbers (told .from .given .1) (read .read-memory .ensures .0), read .read-memory .ensures .1)
+    let after = told .before .before .before .before in
+    let read = rw (after .before .before .shape-of .ensures) at (after .read-memory .ensures) in
+    (numbers-told reported readNumbers (told .from .given .1) (read .0), read .1)
 
 returns-3 : tie.Need-returns-3
 returns-3 c =
     let told = c .before .before in
-    let read = told .before .before .before .before in
-    (numbers-told reported readNumbers (told .from2 .given .1) (read .read-memory .ensures .0), read .read-memory .ensures .1)
+    let after = told .before .before .before .before in
+    let read = rw (after .before .before .shape-of .ensures) at (after .read-memory .ensures) in
+    (numbers-told reported readNumbers (told .from2 .given .1) (read .0), read .1)
 
 returns-4 : tie.Need-returns-4
 returns-4 c =
     let told = c .before .before in
-    let read = told .before .before .before .before in
-    (numbers-told reported readNumbers (told .from3 .given .1) (read .read-memory .ensures .0), read .read-memory .ensures .1)
+    let after = told .before .before .before .before in
+    let read = rw (after .before .before .shape-of .ensures) at (after .read-memory .ensures) in
+    (numbers-told reported readNumbers (told .from3 .given .1) (read .0), read .1)
 
 returns-5 : tie.Need-returns-5
 returns-5 c =
     let told = c .before .before in
-    let read = told .before .before .before .before in
-    (numbers-told reported readNumbers (told .from4 .given .1) (read .read-memory .ensures .0), read .read-memory .ensures .1)
+    let after = told .before .before .before .before in
+    let read = rw (after .before .before .shape-of .ensures) at (after .read-memory .ensures) in
+    (numbers-told reported readNumbers (told .from4 .given .1) (read .0), read .1)
 
 returns-6 : tie.Need-returns-6
 returns-6 c =
     let told = c .before .before .before in
-    let read = told .before .before .before .before in
-    (numbers-told reported readNumbers (told .n .given .1) (read .read-memory .ensures .0), read .read-memory .ensures .1)
+    let after = told .before .before .before .before in
+    let read = rw (after .before .before .shape-of .ensures) at (after .read-memory .ensures) in
+    (numbers-told reported readNumbers (told .n .given .1) (read .0), read .1)
 
 returns-7 : tie.Need-returns-7
 returns-7 c =
     let told = c .before .before .before in
-    let read = told .before .before .before .before in
-    (rw (c .before .number .ensures) (numbers-told reported readNumbers (told .r .given .1) (read .read-memory .ensures .0)), read .read-memory .ensures .1)
+    let after = told .before .before .before .before in
+    let read = rw (after .before .before .shape-of .ensures) at (after .read-memory .ensures) in
+    (rw (c .before .number .ensures) (numbers-told reported readNumbers (told .r .given .1) (read .0)), read .1)
 
 pub quirelinnet-read-memory-spec : {M : Type 1} → statement M
 quirelinnet-read-memory-spec =
     tie.close
     (tie.spec
+    (λ c κs. search needs)
     (λ c κs. search needs)
     (λ c. search needs)
     (λ c. search needs)

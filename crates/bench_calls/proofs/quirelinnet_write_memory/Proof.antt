@@ -9,25 +9,29 @@ use Rattle.bench_calls.proofs.quirelinnet_write_memory.Tie as tie
 returns : tie.Need-returns
 returns c =
     let told = c .before .before in
-    let write = told .before .before .before .before in
-    (numbers-told reported writeNumbers (told .end .given .1) (write .write-memory .ensures .0), write .write-memory .ensures .1)
+    let after = told .before .before .before .before in
+    let write = rw (after .before .before .shape-of .ensures) at (after .write-memory .ensures) in
+    (numbers-told reported writeNumbers (told .end .given .1) (write .0), write .1)
 
 returns-2 : tie.Need-returns-2
 returns-2 c =
     let told = c .before .before .before in
-    let write = told .before .before .before .before in
-    (numbers-told reported writeNumbers (told .n .given .1) (write .write-memory .ensures .0), write .write-memory .ensures .1)
+    let after = told .before .before .before .before in
+    let write = rw (after .before .before .shape-of .ensures) at (after .write-memory .ensures) in
+    (numbers-told reported writeNumbers (told .n .given .1) (write .0), write .1)
 
 returns-3 : tie.Need-returns-3
 returns-3 c =
     let told = c .before .before .before in
-    let write = told .before .before .before .before in
-    (rw (c .before .number .ensures) (numbers-told reported writeNumbers (told .r .given .1) (write .write-memory .ensures .0)), write .write-memory .ensures .1)
+    let after = told .before .before .before .before in
+    let write = rw (after .before .before .shape-of .ensures) at (after .write-memory .ensures) in
+    (rw (c .before .number .ensures) (numbers-told reported writeNumbers (told .r .given .1) (write .0)), write .1)
 
 pub quirelinnet-write-memory-spec : {M : Type 1} → statement M
 quirelinnet-write-memory-spec =
     tie.close
     (tie.spec
+    (λ c κs. search needs)
     (λ c κs. search needs)
     (λ c. search needs)
     (λ c. search needs)

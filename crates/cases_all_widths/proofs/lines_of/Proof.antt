@@ -7,4 +7,4 @@ use Rattle.cases_all_widths.proofs.lines_of.Tie as tie
 pub lines-of-spec : {M : Type 1} → statement M
 lines-of-spec =
     tie.close
-    (tie.spec (λ k m₀ m. m ≤ 16) (λ k m₀ m. 16 - m) (λ c. search needs) (λ c κs. search needs) (λ c. search needs) (λ c. search needs) (λ c. search needs) (λ c. search needs))
+    (tie.spec (λ k kind m₀ m. m ≤ 16) (λ k kind m₀ m. 16 - m) (λ c. search needs) (λ c κs. search needs) (λ c κs. search needs) (λ c. search needs) (λ c. search needs) (λ c. search needs) (λ c. search needs))

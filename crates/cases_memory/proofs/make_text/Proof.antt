@@ -10,10 +10,13 @@ pub make-text-spec : {M : Type 1} → statement M
 make-text-spec =
     tie.close
     (tie.spec
-    (λ state₀ bytes₀ count fields first len₀ c₀ state bytes len c. (c ≤ count) × (0 < count) × (count ≤ 16) × (first < 16) × (0 < fields) × (fields ≤ 16) × (length bytes ≡ length bytes₀))
+    (λ state₀ bytes₀ count fields first len₀ c₀ state bytes len c. (c ≤ count) × (0 < count) × (count ≤ 16) × (first < 16) × (0 < fields) × (length bytes ≡ length bytes₀))
     (λ state₀ bytes₀ count fields first len₀ c₀ state bytes len c. count - c)
     (λ c κs. search needs)
     (λ c κs. search needs)
+    (λ c κs. search needs)
+    (λ c. search needs)
+    (λ c. search needs)
     (λ c κs. search needs)
     (λ c κs. search needs)
     (λ c. search needs)

@@ -6,8 +6,10 @@ use native.Mathlib.Omega.{arith}
 use borrow.Author.Tests.{leb-false, lt-leb}
 use lib.Dec.{leb}
 use lib.Pow.{pow-add, pow-mono, pow-pos}
+use Rattle.units.specs.Kinds.{ones}
 use Rattle.units.specs.Inner.Good.{GoodWidths}
 use Rattle.units.specs.declared.shapes.Shape.{Shape}
+use Rattle.units.proofs.Laws.Kinds.{ones-at-most}
 use Rattle.entry.specs.Errors.{jOf}
 use Rattle.entry.specs.Fields.{fieldsEnd, isWide, cap}
 
@@ -15,12 +17,12 @@ module _ (s : Shape) where
   -- there are fields
   pub fields-end-positive : 0 < fieldsEnd s
   unfolding fieldsEnd
-  fields-end-positive = pow-pos (s .m)
+  fields-end-positive = omega (arith, pow-pos (s .m))
 
   -- no field stands for more than 1.0
   pub fields-end-within : fieldsEnd s ≤ 2 ^ s .m + 1
   unfolding fieldsEnd
-  fields-end-within = omega arith
+  fields-end-within = omega (arith, ones-at-most (s .kind))
 
   -- the value after the cap is that of the first number that is no field
   pub cap-is : cap s + 1 ≡ jOf s (fieldsEnd s)
@@ -35,10 +37,10 @@ module _ (s : Shape) where
   pub cap-within-one : cap s ≤ 2 ^ (s .m + 1)
   cap-within-one = omega (arith, cap-is, fields-end-within, pow-add 2 (s .m) 1)
 
-  -- Document 01: "never above 2^(m+1) - 1"
-  pub cap-of-m-bits : cap s ≡ 2 ^ (s .m + 1) - 1
-  unfolding cap fieldsEnd
-  cap-of-m-bits = omega (arith, pow-add 2 (s .m) 1)
+  -- Document 01: "never above 2^(m+1) - 1"; document 02: "the cap is 2^(m+1)"
+  pub cap-by-kind : cap s + 1 ≡ 2 ^ (s .m + 1) + ones (s .kind)
+  unfolding fieldsEnd
+  cap-by-kind = omega (arith, cap-is, pow-add 2 (s .m) 1)
 
   pub smallest-within-cap : 2 ^ s .m ≤ cap s
   smallest-within-cap = omega (arith, cap-is, fields-end-positive)

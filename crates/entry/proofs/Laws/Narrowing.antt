@@ -3,14 +3,16 @@ use Prim.Native.Nat.{ℕ, _+_, _-_, _*_, _/_, _%_, _^_, _≤_, _<_}
 use mathlib.Core.Path.{_≡_, sym, ap, ap₂, subst, subst₂}
 use native.Mathlib.Nat.{le-trans, mul-le-mul-right, le-of-mul-le-mul-right, mod-lt}
 use native.Mathlib.Omega.{arith}
-use lib.Pow.{pow-pos, shr-lt, split}
+use lib.Pow.{pow-add, pow-pos, shr-lt, split}
+use Rattle.units.specs.Kinds.{MayFollow}
+use Rattle.units.proofs.Laws.Kinds.{follows-scaled}
 use Rattle.units.proofs.Laws.Powers.{power-splits}
 use Rattle.units.specs.declared.shapes.Shape.{Shape}
 use Rattle.entry.specs.Errors.{unit, iOf, worst}
-use Rattle.entry.specs.Fields.{cap, fieldsEnd}
+use Rattle.entry.specs.Fields.{cap}
 use Rattle.entry.specs.Least.{least, leastWorst}
 use Rattle.entry.specs.Inside.{Inside}
-use Rattle.entry.proofs.Laws.Fields.{cap-is, smallest-within-cap}
+use Rattle.entry.proofs.Laws.Fields.{cap-by-kind, smallest-within-cap}
 use Rattle.entry.proofs.Laws.Worst.{worst-within, within-worst}
 use Rattle.entry.proofs.Laws.Least.{least-below, least-reached}
 use Rattle.entry.proofs.Laws.Table.{unit-is}
@@ -33,16 +35,16 @@ module _ (u i x p q : ℕ) (left : i * p ≤ x) (right : x + 1 ≤ (i + 1) * p) 
       (least-below (u * (p * q)) x (mul-le-mul-right q (r .from)) (le-trans (mul-le-mul-right q (r .to)) fits))
       (narrower-interval-no-worse (r .j)))
 
--- two tables, the second with neither width smaller
-module _ (s t : Shape) (wider : s .k ≤ t .k) (finer : s .m ≤ t .m) where
+-- two tables, the second of a kind that may follow the first's, and with neither width smaller
+module _ (s t : Shape) (follows : MayFollow (s .kind) (t .kind)) (wider : s .k ≤ t .k) (finer : s .m ≤ t .m) where
   unit-scales : unit t ≡ unit s * (2 ^ (t .k - s .k) * 2 ^ (t .m - s .m))
   unit-scales =
       rw (unit-is s) (omega (arith, unit-is t, ap₂ (λ (x y : ℕ). x * y) (power-splits wider) (power-splits finer)))
 
   cap-scales : cap s * 2 ^ (t .m - s .m) ≤ cap t
-  unfolding fieldsEnd
   cap-scales =
-      omega (arith, ap (λ (x : ℕ). x * 2 ^ (t .m - s .m)) (cap-is s), cap-is t, power-splits finer, pow-pos (t .m - s .m))
+      follows-scaled follows (cap s) (cap t) (2 ^ (s .m + 1)) (2 ^ (t .m - s .m)) (pow-pos (t .m - s .m)) (cap-by-kind s)
+      (omega (arith, cap-by-kind t, ap (λ (x : ℕ). x * 2 ^ (t .m - s .m)) (pow-add 2 (s .m) 1), pow-add 2 (t .m) 1, power-splits finer))
 
   -- Demand 3: "its best entry's worst error, as an exact fraction, is no larger than that of the best entry of the first table
   -- whose interval contains it"

@@ -9,4 +9,4 @@ as-many : (n : ℕ) → n ≡ length (replicate {A = ℕ} n 0)
 as-many n = sym (length-replicate n 0)
 
 pub blank-spec : {M : Type 1} → statement M
-blank-spec = tie.close (tie.spec (λ c. as-many 1048583))
+blank-spec = tie.close (tie.spec (λ c. as-many 1048587))

@@ -25,10 +25,10 @@ use Rattle.survey.specs.declared.tallies.Finding.{Finding}
 use Rattle.survey.specs.declared.surveys.SurveyAnswer.{SurveyAnswer}
 use Rattle.survey.specs.declared.surveys.SurveyAnswer.the-variants.{Surveyed}
 use Rattle.verdict.specs.Check as check-specs
-use Rattle.listing_line.specs.Line.{lineRead, widths}
+use Rattle.listing_line.specs.Line.{asks, lineRead}
 use Rattle.listing_text.specs.Inner.Pages.{Listed}
 use Rattle.listing_text.specs.Listing.{tableText, refusedText, textFor}
-use Rattle.listing_text.proofs.Laws.Listing.{refused-widths-text, listed-widths-text}
+use Rattle.listing_text.proofs.Laws.Listing.{refused-shape-text, listed-shape-text}
 use Rattle.recip.proofs.Promises.Demand2.{survey-number, check-number, built-passes}
 
 module _ (s : Shape) (cells : List ℕ) (good : GoodTable s (length cells)) where
@@ -62,11 +62,11 @@ module _ (s : Shape) (cells : List ℕ) (good : GoodTable s (length cells)) wher
         surveyed = figures-are f e;
       }
 
--- what the build's answer asks to be written for widths that were read, in a table of 32,768 cells: its refusal
-module _ (input cells : List ℕ) (s : Shape) (read : lineRead input ≡ widths s) (size : 32768 ≡ length cells) (o : Outcome) (answer-is : replyOf o ≡ refusal (tableTests s (length cells))) where
+-- what the build's answer asks to be written for a shape that was read, in a table of 32,768 cells: its refusal
+module _ (input cells : List ℕ) (s : Shape) (read : lineRead input ≡ asks s) (size : 32768 ≡ length cells) (o : Outcome) (answer-is : replyOf o ≡ refusal (tableTests s (length cells))) where
   pub build-refused : (r : Refusal) → o ≡ Refused r → refusedText (refusalNumber r) ≡ textFor input
   build-refused r is =
-      refused-widths-text input s {b = reply (refusalNumber r) 0} read (rw (← size) at (sym (ap replyOf is) ∙ answer-is)) (refusal-numbered r)
+      refused-shape-text input s {b = reply (refusalNumber r) 0} read (rw (← size) at (sym (ap replyOf is) ∙ answer-is)) (refusal-numbered r)
 
   module _ (is : o ≡ Done) (table : List ℕ) (e : table ≡ built s cells) where
     good : GoodTable s (length cells)
@@ -75,7 +75,7 @@ module _ (input cells : List ℕ) (s : Shape) (read : lineRead input ≡ widths 
     -- or the table, with its survey
     pub build-listed : (f : Finding) → reported (Surveyed f) ≡ surveyReport s table → (tableText s ≡ textFor input) × Listed s table (figuresOf f)
     build-listed f found =
-        (listed-widths-text input s read (rw (← size) at (good-table good)), rw e (listed s cells good f (rw e at found)))
+        (listed-shape-text input s read (rw (← size) at (good-table good)), rw e (listed s cells good f (rw e at found)))
 
     -- and no other answer of the survey comes
     pub build-surveyed : (a : SurveyAnswer) → reported a ≡ surveyReport s table → 0 < reported a .number → ⊥

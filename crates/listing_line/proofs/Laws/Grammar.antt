@@ -1,9 +1,9 @@
--- The definition of the input line is document 01's grammar: what is written so is read so, and what is read so was written so.
+-- The definition of the input line is the documents' grammar: what is written so is read so, and what is read so was written so.
 -- Assumes nothing.
 use Prim.Native.Nat.{ℕ, _+_, _-_, _*_, _≤_, _<_}
 use mathlib.Core.Bool.{Bool, true, false, cond, _&&_, false≢true}
 use mathlib.Core.List.{List, [], _∷_, _++_}
-use mathlib.Core.Path.{_≡_, refl, sym, ap, _∙_}
+use mathlib.Core.Path.{_≡_, refl, sym, ap, subst, _∙_}
 use native.Mathlib.Numerals.{add-one}
 use native.Mathlib.Omega.{arith}
 use borrow.Author.Tests.{le-leb, leb-true, eqb-true}
@@ -12,20 +12,24 @@ use lib.ListN.{length, take, drop, length-append, List·getD-eq-default, drop-of
 use lib.Seq.{drop-cons, take-all, length-take-le}
 use Rattle.units.proofs.Laws.Order.{by-order}
 use Rattle.units.specs.Shapes.{shape}
-use Rattle.listing_line.specs.Line.{byteAt, isDigit, wordEnd, wordValue, formed, isLine, Line, widths, refused, lineRead}
+use Rattle.units.specs.declared.kinds.Kind.{Kind}
+use Rattle.units.specs.declared.kinds.Kind.the-variants.{Plain, WithOne}
+use Rattle.units.specs.declared.shapes.Shape.{Shape}
+use Rattle.listing_line.specs.Line.{byteAt, isDigit, wordEnd, wordValue, kindWord, oneAt, kindAt, kindEnd, formed, widthsEnd, isLine, Line, asks, refused, lineRead}
+use Rattle.listing_line.proofs.Laws.Line.{kind-word-most}
 
 -- "one or two decimal digits", and the number that they show. The digit v is the byte 48 + v. "Leading zeros are allowed."
 pub data Digits : List ℕ → ℕ → Type 0 where
   one : (v : ℕ) → v ≤ 9 → Digits ((48 + v) ∷ []) v
   two : (u v : ℕ) → u ≤ 9 → v ≤ 9 → Digits ((48 + u) ∷ (48 + v) ∷ []) (10 * u + v)
 
--- "one or two decimal digits, one space, one or two digits, one newline, then the end"
-pub record Written (s : List ℕ) (k m : ℕ) : Type 0 where
+-- "one or two decimal digits, one space, one or two digits", the "optional third word "one" after one space", "one newline, then the end"
+pub record Written (s : List ℕ) (t : Shape) : Type 0 where
   pub first : List ℕ
   pub second : List ℕ
-  pub input-width : Digits first k
-  pub output-width : Digits second m
-  pub whole : s ≡ first ++ (32 ∷ (second ++ (10 ∷ [])))
+  pub input-width : Digits first (t .k)
+  pub output-width : Digits second (t .m)
+  pub whole : s ≡ first ++ (32 ∷ (second ++ (kindWord (t .kind) ++ (10 ∷ []))))
 
 digit-is : (v : ℕ) → v ≤ 9 → isDigit (48 + v) ≡ true
 unfolding isDigit
@@ -42,21 +46,30 @@ newline-is-none = refl
 shown : (v : ℕ) → 48 + v - 48 ≡ v
 shown v = omega arith
 
--- each of the four ways is a list of known length, so its reading computes
-joined-reads : {a b : List ℕ} {k m : ℕ} → Digits a k → Digits b m → lineRead (a ++ (32 ∷ (b ++ (10 ∷ [])))) ≡ widths (shape k m)
-unfolding lineRead isLine formed wordEnd wordValue
-joined-reads (one v h) (one w i) =
+-- each of the eight ways is a list of known length, so its reading computes
+joined-reads : {a b : List ℕ} {k m : ℕ} → Digits a k → Digits b m → (kind : Kind)
+    → lineRead (a ++ (32 ∷ (b ++ (kindWord kind ++ (10 ∷ []))))) ≡ asks (shape k m kind)
+unfolding lineRead isLine formed wordEnd wordValue oneAt kindAt kindEnd
+joined-reads (one v h) (one w i) Plain =
     simp (space-is-none, newline-is-none, digit-is v h, digit-is w i, shown)
-joined-reads (one v h) (two u w i j) =
+joined-reads (one v h) (one w i) WithOne =
+    simp (space-is-none, digit-is v h, digit-is w i, shown)
+joined-reads (one v h) (two u w i j) Plain =
     simp (space-is-none, digit-is v h, digit-is u i, digit-is w j, shown)
-joined-reads (two t v g h) (one w i) =
+joined-reads (one v h) (two u w i j) WithOne =
+    simp (space-is-none, digit-is v h, digit-is u i, digit-is w j, shown)
+joined-reads (two t v g h) (one w i) Plain =
     simp (newline-is-none, digit-is t g, digit-is v h, digit-is w i, shown)
-joined-reads (two t v g h) (two u w i j) =
+joined-reads (two t v g h) (one w i) WithOne =
+    simp (space-is-none, digit-is t g, digit-is v h, digit-is w i, shown)
+joined-reads (two t v g h) (two u w i j) Plain =
+    simp (digit-is t g, digit-is v h, digit-is u i, digit-is w j, shown)
+joined-reads (two t v g h) (two u w i j) WithOne =
     simp (digit-is t g, digit-is v h, digit-is u i, digit-is w j, shown)
 
 -- what is written so is read so
-pub written-reads : {s : List ℕ} {k m : ℕ} → Written s k m → lineRead s ≡ widths (shape k m)
-written-reads w = ap lineRead (w .whole) ∙ joined-reads (w .input-width) (w .output-width)
+pub written-reads : {s : List ℕ} {t : Shape} → Written s t → lineRead s ≡ asks t
+written-reads {t = t} w = ap lineRead (w .whole) ∙ joined-reads (w .input-width) (w .output-width) (t .kind)
 
 both : (x y : Bool) → (x && y) ≡ true → (x ≡ true) × (y ≡ true)
 both true y h = (refl, h)
@@ -109,21 +122,49 @@ word-at : (s : List ℕ) (at : ℕ) → isDigit (byteAt s at) ≡ true → Word 
 unfolding wordValue wordEnd
 word-at s at h = word-by s at (isDigit (byteAt s (at + 1))) h refl
 
+-- the bytes of the kind, by whether " one" stands there
+kind-by : (s : List ℕ) (at : ℕ) (t : Bool) → oneAt s at ≡ t
+    → drop at s ≡ kindWord (cond t WithOne Plain) ++ drop (at + length (kindWord (cond t WithOne Plain))) s
+unfolding oneAt
+kind-by s at true h =
+    let p = both (eqb (byteAt s at) 32) _ h in
+    let q = both (eqb (byteAt s (at + 1)) 111) _ (p .1) in
+    let r = both (eqb (byteAt s (at + 2)) 110) (eqb (byteAt s (at + 3)) 101) (q .1) in
+    let second : at + 1 + 1 ≡ at + 2 = omega arith in
+    let third : at + 2 + 1 ≡ at + 3 = omega arith in
+    let fourth : at + 3 + 1 ≡ at + 4 = omega arith in
+    cc (
+      stands s at 32 (eqb-true _ 32 (p .0)) (omega arith),
+      stands s (at + 1) 111 (eqb-true _ 111 (q .0)) (omega arith),
+      stands s (at + 2) 110 (eqb-true _ 110 (r .0)) (omega arith),
+      stands s (at + 3) 101 (eqb-true _ 101 (r .1)) (omega arith),
+      second,
+      third,
+      fourth,
+    )
+kind-by s at false h =
+    let nothing : at ≡ at + 0 = omega arith in
+    ap (λ (n : ℕ). drop n s) nothing
+
+kind-there : (s : List ℕ) (at : ℕ) → drop at s ≡ kindWord (kindAt s at) ++ drop (kindEnd s at) s
+unfolding kindAt kindEnd
+kind-there s at = kind-by s at (oneAt s at) refl
+
 -- the tests of the form, each by its name
-record Tested (s : List ℕ) (a b : ℕ) : Type 0 where
+record Tested (s : List ℕ) (a c : ℕ) : Type 0 where
   digit : isDigit (byteAt s 0) ≡ true
   space : byteAt s a ≡ 32
   next : isDigit (byteAt s (a + 1)) ≡ true
-  newline : byteAt s b ≡ 10
-  end : length s ≡ b + 1
+  newline : byteAt s c ≡ 10
+  end : length s ≡ c + 1
 
-tested : (s : List ℕ) (a b : ℕ) → formed s a b ≡ true → Tested s a b
+tested : (s : List ℕ) (a c : ℕ) → formed s a c ≡ true → Tested s a c
 unfolding formed
-tested s a b h =
+tested s a c h =
     let p = both (isDigit (byteAt s 0)) _ h in
     let q = both (eqb (byteAt s a) 32) _ (p .1) in
     let r = both (isDigit (byteAt s (a + 1))) _ (q .1) in
-    let t = both (eqb (byteAt s b) 10) (eqb (length s) (b + 1)) (r .1) in
+    let t = both (eqb (byteAt s c) 10) (eqb (length s) (c + 1)) (r .1) in
     record {
       digit = p .0;
       space = eqb-true _ 32 (q .0);
@@ -132,24 +173,30 @@ tested s a b h =
       end = eqb-true _ _ (t .1);
     }
 
--- the input is the first word, the space, the second word and the newline, one after the other
-line-written : (s : List ℕ) → isLine s ≡ true → Written s (wordValue s 0) (wordValue s (wordEnd s 0 + 1))
+-- what is asked for, where the input has the form
+abbrev shapeIn : List ℕ → Shape
+shapeIn s = shape (wordValue s 0) (wordValue s (wordEnd s 0 + 1)) (kindAt s (widthsEnd s))
+
+-- the input is the first word, the space, the second word, the kind and the newline, one after the other
+line-written : (s : List ℕ) → isLine s ≡ true → Written s (shapeIn s)
 unfolding isLine
 line-written s h =
     let a = wordEnd s 0 in
-    let b = wordEnd s (a + 1) in
-    let t = tested s a b h in
+    let b = widthsEnd s in
+    let c = kindEnd s b in
+    let t = tested s a c h in
     let v = word-at s 0 (t .digit) in
     let w = word-at s (a + 1) (t .next) in
     let space = stands s a 32 (t .space) (omega arith) in
-    let newline = stands s b 10 (t .newline) (omega arith) in
-    let end = drop-of-length-le s {i = b + 1} (omega (arith, t .end)) in
+    let kind = kind-there s b in
+    let newline = stands s c 10 (t .newline) (omega arith) in
+    let end = drop-of-length-le s {i = c + 1} (omega (arith, t .end)) in
     record {
       first = v .word;
       second = w .word;
       input-width = v .digits;
       output-width = w .digits;
-      whole = cc (v .there, w .there, space, newline, end);
+      whole = cc (v .there, w .there, space, kind, newline, end);
     }
 
 not-line-refused : (s : List ℕ) → isLine s ≡ false → lineRead s ≡ refused 7
@@ -161,34 +208,33 @@ by-line s true e f g = f e
 by-line s false e f g = g e
 
 -- what is read so was written so
-pub reads-written : (s : List ℕ) (k m : ℕ) → lineRead s ≡ widths (shape k m) → Written s k m
-reads-written s k m e =
+pub reads-written : (s : List ℕ) (t : Shape) → lineRead s ≡ asks t → Written s t
+reads-written s t e =
     by-line s (isLine s) refl
     (λ h.
     let w = line-written s h in
-    let same = sym (written-reads w) ∙ e in
-    rw (ap (λ (l : Line). l .shape .k) same, ap (λ (l : Line). l .shape .m) same) at w)
+    subst (Written s) (ap (λ (l : Line). l .shape) (sym (written-reads w) ∙ e)) w)
     (λ h. absurd (omega (arith, ap (λ (l : Line). l .number) (sym (not-line-refused s h) ∙ e))))
 
 -- "Otherwise it writes "refused 7"."
-pub otherwise-refused : (s : List ℕ) → ((k m : ℕ) → Written s k m → ⊥) → lineRead s ≡ refused 7
-otherwise-refused s none = by-line s (isLine s) refl (λ h. absurd (none _ _ (line-written s h))) (not-line-refused s)
+pub otherwise-refused : (s : List ℕ) → ((t : Shape) → Written s t → ⊥) → lineRead s ≡ refused 7
+otherwise-refused s none = by-line s (isLine s) refl (λ h. absurd (none _ (line-written s h))) (not-line-refused s)
 
--- no line has more than 6 bytes
+-- no line has more than 10 bytes
 few-digits : {a : List ℕ} {k : ℕ} → Digits a k → length a ≤ 2
 few-digits (one v h) = omega arith
 few-digits (two u v g h) = omega arith
 
-written-short : {s : List ℕ} {k m : ℕ} → Written s k m → length s ≤ 6
-written-short w =
-    rw (w .whole, length-append (w .first) (32 ∷ (w .second ++ (10 ∷ []))), length-append (w .second) (10 ∷ []))
-    (omega (arith, few-digits (w .input-width), few-digits (w .output-width)))
+written-short : {s : List ℕ} {t : Shape} → Written s t → length s ≤ 10
+written-short {t = t} w =
+    rw (w .whole)
+    (simp length-append (omega (arith, few-digits (w .input-width), few-digits (w .output-width), kind-word-most (t .kind))))
 
-long-refused : (s : List ℕ) → 6 < length s → lineRead s ≡ refused 7
-long-refused s h = otherwise-refused s (λ k m w. absurd (omega (arith, written-short w)))
+long-refused : (s : List ℕ) → 10 < length s → lineRead s ≡ refused 7
+long-refused s h = otherwise-refused s (λ t w. absurd (omega (arith, written-short w)))
 
--- so the first 8 bytes of an input decide
-pub eight-bytes-decide : (s : List ℕ) → lineRead (take 8 s) ≡ lineRead s
-eight-bytes-decide s =
-    by-order (length s) 8 (λ short. ap lineRead (take-all 8 s short))
-    (λ long. long-refused (take 8 s) (omega (arith, length-take-le 8 s (omega arith))) ∙ sym (long-refused s (omega arith)))
+-- so the first 12 bytes of an input decide
+pub twelve-bytes-decide : (s : List ℕ) → lineRead (take 12 s) ≡ lineRead s
+twelve-bytes-decide s =
+    by-order (length s) 12 (λ short. ap lineRead (take-all 12 s short))
+    (λ long. long-refused (take 12 s) (omega (arith, length-take-le 12 s (omega arith))) ∙ sym (long-refused s (omega arith)))

@@ -5,14 +5,14 @@ use Prim.Native.Nat.{ℕ}
 use Rattle.units.proofs.Laws.OneToOne.{one-to-one, byNumber, refused-reads}
 use Rattle.listing_line.specs.Line.{Line, reported, lineRead}
 use Rattle.listing_line.specs.declared.line.Reading.{Reading}
-use Rattle.listing_line.specs.declared.line.Reading.the-variants.{Widths, Refused}
+use Rattle.listing_line.specs.declared.line.Reading.the-variants.{Asks, Refused}
 
 readingOf : Line → Reading
-readingOf l = byNumber (l .number) (Widths (l .shape)) (Widths (l .shape)) Refused
+readingOf l = byNumber (l .number) (Asks (l .shape)) (Asks (l .shape)) Refused
 
 reads : (a : Reading) → readingOf (reported a) ≡ a
 unfolding readingOf
-reads (Widths s) = refl
+reads (Asks s) = refl
 reads (Refused r) = refused-reads r _ _ Refused
 
 pub reported-one-to-one : (a b : Reading) → reported a ≡ reported b → a ≡ b

@@ -9,9 +9,11 @@ use lib.Pow.{pow-mono}
 use lib.ListN.{length, take, drop, getD, replicate, length-append}
 use lib.Seq.{getD-at, set-at, take-append-seam, drop-append-seam}
 use Rattle.units.specs.Inner.Good.{GoodWidths}
+use Rattle.units.specs.Kinds.{fieldBits}
 use Rattle.units.specs.Refusals.{Reply, tableTests, shortText}
 use Rattle.units.specs.declared.shapes.Shape.{Shape}
 use Rattle.units.proofs.Laws.Good.{good-table}
+use Rattle.units.proofs.Laws.Kinds.{bits-hold-fields}
 use Rattle.units.proofs.Laws.Tests.{zero-passed, passed-parts, done-by}
 use Rattle.entry.specs.Fields.{fieldsEnd, isWide}
 use Rattle.table.specs.Inner.Good.{GoodFields}
@@ -61,8 +63,8 @@ module _ (s : Shape) (g : GoodWidths s) where
   fits : (f : ℕ) → isWide s f ≡ false → f < 2 ^ (4 * digitCount s)
   unfolding isWide fieldsEnd
   fits f narrow =
-      let enough : s .m ≤ 4 * digitCount s = omega arith in
-      omega (arith, leb-false (2 ^ s .m) f narrow, pow-mono enough)
+      let enough : fieldBits (s .kind) (s .m) ≤ 4 * digitCount s = omega arith in
+      omega (arith, leb-false (fieldsEnd s) f narrow, bits-hold-fields (s .kind) (s .m), pow-mono enough)
 
   -- so its line says the field
   line-says : (at f : ℕ) → isWide s f ≡ false

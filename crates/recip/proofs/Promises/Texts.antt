@@ -5,6 +5,7 @@ use mathlib.Core.Path.{_≡_, refl}
 use lib.ListN.{replicate}
 use Rattle.units.specs.Refusals.{reply, answer, outside}
 use Rattle.units.specs.Shapes.{shape}
+use Rattle.units.specs.declared.kinds.Kind.the-variants.{Plain, WithOne}
 use Rattle.entry.specs.Fields.{fieldsEnd, isWide}
 use Rattle.table.specs.First.{anyOf, firstOf}
 use Rattle.memory_tokens.specs.Tokens.{isWhite, opens, ends, wordOf, closes, tokensIn}
@@ -14,11 +15,13 @@ use Rattle.memory_text.specs.Write.{linesOf, memoryText}
 
 -- a table of two cells, and fields of five bits
 abbrev pub read : List ℕ → Reading
-read text = reading (shape 1 5) text
+read text = reading (shape 1 5 Plain) text
 
 pub record TextExamples : Type 0 where
   -- (1,5) with fields 10 and 31: "0a", "1f"
-  pub written : memoryText (shape 1 5) (10 ∷ 31 ∷ []) ≡ 48 ∷ 97 ∷ 10 ∷ 49 ∷ 102 ∷ 10 ∷ []
+  pub written : memoryText (shape 1 5 Plain) (10 ∷ 31 ∷ []) ≡ 48 ∷ 97 ∷ 10 ∷ 49 ∷ 102 ∷ 10 ∷ []
+  -- (1,4) with one, and fields 16 and 3: five bits, "10", "03"
+  pub with-one : memoryText (shape 1 4 WithOne) (16 ∷ 3 ∷ []) ≡ 49 ∷ 48 ∷ 10 ∷ 48 ∷ 51 ∷ 10 ∷ []
   -- "A 1_f": upper case, and an underscore after a first digit
   pub forms : read (65 ∷ 32 ∷ 49 ∷ 95 ∷ 102 ∷ []) ≡ complete (10 ∷ 31 ∷ [])
   -- "@1 2/**/@0//x" and "3" after a form feed and a newline: addresses go back, and comments are white space
@@ -41,6 +44,9 @@ pub record TextExamples : Type 0 where
   pub far : read (64 ∷ replicate 1000 102) ≡ stopped (reply 9 0)
   -- "20": too wide
   pub wide : read (50 ∷ 48 ∷ []) ≡ stopped (reply 5 0)
+  -- of (1,5) with one "20 0" is read, and "21" is too wide
+  pub one-read : reading (shape 1 5 WithOne) (50 ∷ 48 ∷ 32 ∷ 48 ∷ []) ≡ complete (32 ∷ 0 ∷ [])
+  pub wide-with-one : reading (shape 1 5 WithOne) (50 ∷ 49 ∷ []) ≡ stopped (reply 5 0)
   -- "1 @0 20": 5 before 10, and "1 2 20": 9 before 5
   pub wide-first : read (49 ∷ 32 ∷ 64 ∷ 48 ∷ 32 ∷ 50 ∷ 48 ∷ []) ≡ stopped (reply 5 5)
   pub past-first : read (49 ∷ 32 ∷ 50 ∷ 32 ∷ 50 ∷ 48 ∷ []) ≡ stopped (reply 9 4)
@@ -54,6 +60,7 @@ unfolding answer outside fieldsEnd isWide anyOf firstOf isWhite opens ends wordO
 text-examples =
     record {
       written = refl;
+      with-one = refl;
       forms = refl;
       places = refl;
       zeros = refl;
@@ -67,6 +74,8 @@ text-examples =
       third = refl;
       far = refl;
       wide = refl;
+      one-read = refl;
+      wide-with-one = refl;
       wide-first = refl;
       past-first = refl;
       twice = refl;

@@ -63,7 +63,7 @@ module _ (s : Shape) (h b : ℕ) (cells more : List ℕ) (enough : 2 ^ s .k ≤ 
       (enough-still cells more (2 ^ s .k) enough)
       ∙ answer-when (λ (_ : Reply). cells ++ more) _ (filled (ruleField s) first count cells ++ more) (bankTests s h b (length cells))
       (λ passed.
-      let bank = build-good passed .view .bank in
+      let bank = build-good {s = s} passed .view .bank in
       filled-past (ruleField s) first count cells more (omega (arith, bank-within (s .k) h b (bank .low) (bank .number))))
       ∙ sym (answer-maps (λ (xs : List ℕ). xs ++ more) (λ (_ : Reply). cells) (filled (ruleField s) first count cells) (bankTests s h b (length cells)))
 

@@ -18,7 +18,7 @@ enum-told c = search needs
 
 -- widths and place are good
 good : (c : tie.After-enum-told) → GoodPlace (c .before .before .before .args .shape) (c .before .before .before .args .n .0)
-good c = place-good (done-so (placeTests _ _) (omega arith) (c .enum-told .given .1) (c .before .before .placed .ensures))
+good c = place-good (done-so (placeTests (c .before .before .before .args .shape) _) (omega arith) (c .enum-told .given .1) (c .before .before .placed .ensures))
 
 is-wide-requires : tie.Need-is-wide-requires
 is-wide-requires c κs = good c .widths
@@ -42,7 +42,7 @@ errors-of-requires : tie.Need-errors-of-requires
 errors-of-requires c κs = rw (c .entry-of .ensures) (good-field _ (good (c .before .before .before)) (narrow (c .before)))
 
 returns-2 : tie.Need-returns-2
-returns-2 c = refused-so refused _ (placeTests _ _) _ (c .before .r .given .0 .0) (c .before .r .given .1) (c .before .before .before .placed .ensures)
+returns-2 c = refused-so refused _ (placeTests (c .before .before .before .before .args .shape) _) _ (c .before .r .given .0 .0) (c .before .r .given .1) (c .before .before .before .placed .ensures)
 
 returns-3 : tie.Need-returns-3
 returns-3 c =

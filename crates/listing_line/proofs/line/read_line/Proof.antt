@@ -1,9 +1,9 @@
--- `listing_line::read_line` meets its contract: the words end within five bytes, and the form is tested at their ends. Assumes nothing.
+-- `listing_line::read_line` meets its contract: the words end within nine bytes, and the form is tested at their ends. Assumes nothing.
 use Prim.Native.Nat.{_+_, _≤_}
 use native.Mathlib.Omega.{arith}
 use borrow.Author.Needs.{needs}
-use Rattle.listing_line.specs.Line.{isLine, lineRead}
-use Rattle.listing_line.proofs.Laws.Line.{word-end-most}
+use Rattle.listing_line.specs.Line.{kindEnd, isLine, lineRead}
+use Rattle.listing_line.proofs.Laws.Line.{word-end-most, kind-word-most}
 use Rattle.listing_line.proofs.line.read_line.Statement.{statement}
 use Rattle.listing_line.proofs.line.read_line.Tie as tie
 
@@ -20,19 +20,40 @@ second c =
       word-end-most (c .before .before .before .args .input .now) (c .before .word-end .result + 1),
     )
 
+-- and where the kind does
+third : (c : tie.After-word-length) → c .word-length .result ≤ 4
+third c = omega (arith, c .word-length .ensures, kind-word-most (c .before .kind-at .result))
+
 returns : tie.Need-returns
-unfolding lineRead isLine
+unfolding lineRead isLine kindEnd
 returns c =
-    let formed = c .before .before .before in
-    let ends = formed .before in
-    rw (← ends .before .word-end .ensures, ← ends .word-end2 .ensures, ← formed .is-formed .ensures, c .before .before .if1 .taken) (cc)
+    let formed = c .before .before .before .before in
+    let kind = formed .before .before in
+    let ends = kind .before in
+    rw (
+      ← ends .before .word-end .ensures,
+      ← ends .word-end2 .ensures,
+      ← kind .kind-at .ensures,
+      ← formed .before .word-length .ensures,
+      ← formed .is-formed .ensures,
+      c .before .before .before .if1 .taken,
+    )
+    (cc)
 
 returns-2 : tie.Need-returns-2
-unfolding lineRead isLine
+unfolding lineRead isLine kindEnd
 returns-2 c =
     let formed = c .before in
-    let ends = formed .before in
-    rw (← ends .before .word-end .ensures, ← ends .word-end2 .ensures, ← formed .is-formed .ensures, c .if1 .left)
+    let kind = formed .before .before in
+    let ends = kind .before in
+    rw (
+      ← ends .before .word-end .ensures,
+      ← ends .word-end2 .ensures,
+      ← kind .kind-at .ensures,
+      ← formed .before .word-length .ensures,
+      ← formed .is-formed .ensures,
+      c .if1 .left,
+    )
 
 pub read-line-spec : {M : Type 1} → statement M
 read-line-spec =
@@ -41,9 +62,13 @@ read-line-spec =
     (λ c κs. search needs)
     (λ c. omega (arith, first c))
     (λ c κs. omega (arith, first c))
-    (λ c κs. (omega (arith, first (c .before)), omega (arith, second c)))
+    (λ c κs. omega (arith, second c))
     (λ c κs. search needs)
-    (λ c. omega (arith, first (c .before .before .before .before)))
-    (λ c κs. omega (arith, first (c .before .before .before .before)))
+    (λ c. omega (arith, second (c .before .before), third c))
+    (λ c κs. (omega (arith, first (c .before .before .before)), omega (arith, second (c .before .before), third c)))
+    (λ c κs. search needs)
+    (λ c. omega (arith, first (c .before .before .before .before .before .before)))
+    (λ c κs. omega (arith, first (c .before .before .before .before .before .before)))
+    (λ c κs. search needs)
     returns
     returns-2)

@@ -22,7 +22,7 @@ enum-told c = search needs
 
 -- every test passed
 good : (c : tie.After-enum-told) → GoodTable (c .before .before .before .before .before .args .shape) (length (c .before .before .before .before .before .args .table .now))
-good c = table-good (done-so (tableTests _ _) (omega arith) (c .enum-told .given .1) (c .before .before .whole-table .ensures))
+good c = table-good (done-so (tableTests (c .before .before .before .before .before .args .shape) _) (omega arith) (c .enum-told .given .1) (c .before .before .whole-table .ensures))
 
 -- the cells lent are as many as the table has
 size : (c : tie.After-power) → c .power .result ≤ 32768

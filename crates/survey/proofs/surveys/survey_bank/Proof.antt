@@ -39,7 +39,7 @@ after : (c : tie.After-known-told2) (end n : ℕ) (fields : List ℕ)
     (c .before .before .before .before .before .args .shape)
     n
     fields
-after c end n fields = after-passed (namedTests _ _ _) (fewCells _ end ∷ []) _ n fields (good-named (bank c .named))
+after c end n fields = after-passed (namedTests (c .before .before .before .before .before .args .shape) _ _) (fewCells _ end ∷ []) _ n fields (good-named (bank c .named))
 
 either : {A : Type 0} (b : Bool) {x p q : A} → x ≡ p → x ≡ q → x ≡ cond b p q
 either true e f = e
@@ -60,8 +60,8 @@ returns-2 c =
     let cells = args .cells .now in
     let answers = named .named-bank .ensures in
     either (args .in-table) {p = bankOfReport (args .shape) (args .h) (args .b) cells} {q = bankReport (args .shape) (args .h) (args .b) cells}
-    (not-named _ _ _ answers refused _ _ (c .before .r .given .0 .0) (c .before .r .given .1))
-    (not-named _ _ _ answers refused _ _ (c .before .r .given .0 .0) (c .before .r .given .1))
+    (not-named (args .shape) _ _ answers refused _ _ (c .before .r .given .0 .0) (c .before .r .given .1))
+    (not-named (args .shape) _ _ answers refused _ _ (c .before .r .given .0 .0) (c .before .r .given .1))
 
 -- by itself
 returns-3 : tie.Need-returns-3

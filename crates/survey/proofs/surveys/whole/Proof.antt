@@ -19,7 +19,7 @@ enum-told : tie.Need-enum-told
 enum-told c = search needs
 
 good : (c : tie.After-enum-told) → GoodWidths (c .before .before .before .before .args .shape)
-good c = widths-good (done-so (widthTests _) (omega arith) (c .enum-told .given .1) (c .before .before .widths .ensures))
+good c = widths-good (done-so (widthTests (c .before .before .before .before .args .shape)) (omega arith) (c .enum-told .given .1) (c .before .before .widths .ensures))
 
 power-requires : tie.Need-power-requires
 power-requires c κs = omega (arith, good c)
@@ -28,7 +28,8 @@ survey-part-requires : tie.Need-survey-part-requires
 survey-part-requires c κs = (good (c .before), omega (arith, c .power .ensures))
 
 returns : tie.Need-returns
-returns c = refused-so refused _ (widthTests _) _ (c .before .r .given .0 .0) (c .before .r .given .1) (c .before .before .before .widths .ensures)
+returns c =
+    refused-so refused _ (widthTests (c .before .before .before .before .before .args .shape)) _ (c .before .r .given .0 .0) (c .before .r .given .1) (c .before .before .before .widths .ensures)
 
 returns-2 : tie.Need-returns-2
 returns-2 c =

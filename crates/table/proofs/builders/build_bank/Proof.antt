@@ -27,7 +27,7 @@ good : (c : tie.After-enum-told)
     (c .before .before .before .before .args .h)
     (c .before .before .before .before .args .b)
     (length (c .before .before .before .before .args .table .now))
-good c = build-good (done-so (bankTests _ _ _ _) (omega arith) (c .enum-told .given .1) (c .before .before .buildable .ensures))
+good c = build-good (done-so (bankTests (c .before .before .before .before .args .shape) _ _ _) (omega arith) (c .enum-told .given .1) (c .before .before .buildable .ensures))
 
 bank-at-requires : tie.Need-bank-at-requires
 bank-at-requires c κs = good c .view .bank
@@ -46,9 +46,10 @@ fill-requires c κs =
 returns : tie.Need-returns
 returns c =
     let r = c .before .r .given in
+    let shape = c .before .before .before .before .before .args .shape in
     let tests = c .before .before .before .buildable .ensures in (
-      refused-so (λ (b : Reply). b) (reply 0 0) (bankTests _ _ _ _) [] (r .0 .0) (r .1) tests,
-      refused-so (λ (_ : Reply). _) _ (bankTests _ _ _ _) [] (r .0 .0) (r .1) tests,
+      refused-so (λ (b : Reply). b) (reply 0 0) (bankTests shape _ _ _) [] (r .0 .0) (r .1) tests,
+      refused-so (λ (_ : Reply). _) _ (bankTests shape _ _ _) [] (r .0 .0) (r .1) tests,
     )
 
 returns-2 : tie.Need-returns-2
@@ -58,11 +59,11 @@ returns-2 c =
     let bank = after .bank-at .result in
     let at = after .bank-at .ensures in
     let tests = good-build (good (after .before)) in (
-      done-by (λ (b : Reply). b) (reply 0 0) (bankTests _ _ _ _) tests,
+      done-by (λ (b : Reply). b) (reply 0 0) (bankTests (args .shape) _ _ _) tests,
       filled-part (ruleField (args .shape)) (bank .first) (bank .end - bank .first) (args .table .now) _ (omega (arith, ends after, good (after .before) .view))
           (c .before .before .fill .ensures)
           ∙ ap₂ (λ (first count : ℕ). filled (ruleField (args .shape)) first count (args .table .now)) (at .0) (omega (arith, at .0, at .1))
-          ∙ done-by (λ (_ : Reply). args .table .now) _ (bankTests _ _ _ _) tests,
+          ∙ done-by (λ (_ : Reply). args .table .now) _ (bankTests (args .shape) _ _ _) tests,
     )
 
 pub build-bank-spec : {M : Type 1} → statement M

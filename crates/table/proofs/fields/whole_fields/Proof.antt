@@ -20,7 +20,7 @@ enum-told c = search needs
 
 -- every test but that of the fields passed
 good : (c : tie.After-enum-told) → GoodTable (c .before .before .before .before .args .shape) (length (c .before .before .before .before .args .table .now))
-good c = table-good (done-so (tableTests _ _) (omega arith) (c .enum-told .given .1) (c .before .before .whole-table .ensures))
+good c = table-good (done-so (tableTests (c .before .before .before .before .args .shape) _) (omega arith) (c .enum-told .given .1) (c .before .before .whole-table .ensures))
 
 power-requires : tie.Need-power-requires
 power-requires c κs = omega (arith, good c .widths)
@@ -30,7 +30,7 @@ wide-among-requires c κs = (good (c .before .before) .widths, simp length-take 
 
 returns : tie.Need-returns
 returns c =
-    refused-so (λ (b : Reply). b) (reply 0 0) (tableTests _ _) _ (c .before .r .given .0 .0) (c .before .r .given .1)
+    refused-so (λ (b : Reply). b) (reply 0 0) (tableTests (c .before .before .before .before .before .args .shape) _) _ (c .before .r .given .0 .0) (c .before .r .given .1)
     (c .before .before .before .whole-table .ensures)
 
 returns-2 : tie.Need-returns-2

@@ -12,7 +12,8 @@ enum-told : tie.Need-enum-told
 enum-told c = search needs
 
 returns : tie.Need-returns
-returns c = refused-so (λ (b : Reply). b) _ (tableTests _ _) _ (c .before .r .given .0 .0) (c .before .r .given .1) (c .before .before .before .whole-table .ensures)
+returns c =
+    refused-so (λ (b : Reply). b) _ (tableTests (c .before .before .before .before .args .shape) _) _ (c .before .r .given .0 .0) (c .before .r .given .1) (c .before .before .before .whole-table .ensures)
 
 returns-2 : tie.Need-returns-2
 returns-2 c =

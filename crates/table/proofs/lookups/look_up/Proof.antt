@@ -23,7 +23,7 @@ enum-told c = search needs
 -- every test but that of the field passed
 good : (c : tie.After-enum-told)
     → GoodLookup (c .before .before .before .before .args .shape) (c .before .before .before .before .args .x) (length (c .before .before .before .before .args .table .now))
-good c = lookup-good (done-so (divisorTests _ _ _) (omega arith) (c .enum-told .given .1) (c .before .before .findable .ensures))
+good c = lookup-good (done-so (divisorTests (c .before .before .before .before .args .shape) _ _) (omega arith) (c .enum-told .given .1) (c .before .before .findable .ensures))
 
 shift-of-requires : tie.Need-shift-of-requires
 shift-of-requires c κs = (good c .some, good c .to)
@@ -81,7 +81,8 @@ entry-requires c κs =
     first-bound (good told .table .widths) (c .before .before .fields-of .ensures .0)
 
 returns-2 : tie.Need-returns-2
-returns-2 c = refused-so refused _ (divisorTests _ _ _) _ (c .before .r .given .0 .0) (c .before .r .given .1) (c .before .before .before .findable .ensures)
+returns-2 c =
+    refused-so refused _ (divisorTests (c .before .before .before .before .before .args .shape) _ _) _ (c .before .r .given .0 .0) (c .before .r .given .1) (c .before .before .before .findable .ensures)
 
 returns-3 : tie.Need-returns-3
 returns-3 c =

@@ -20,7 +20,7 @@ enum-told c = search needs
 -- widths and place are good
 good : (c : tie.After-enum-told)
     → GoodPlace (c .before .before .before .before .before .args .self .shape) (c .before .before .before .before .before .args .self .next .0)
-good c = place-good (done-so (placeTests _ _) (omega arith) (c .enum-told .given .1) (c .before .before .placed .ensures))
+good c = place-good (done-so (placeTests (c .before .before .before .before .before .args .self .shape) _) (omega arith) (c .enum-told .given .1) (c .before .before .placed .ensures))
 
 is-wide-requires : tie.Need-is-wide-requires
 is-wide-requires c κs = good c .widths
@@ -44,7 +44,7 @@ add-requires c κs = good-field _ (good (c .before .before)) (narrow c)
 returns-2 : tie.Need-returns-2
 returns-2 c =
     let start = c .before .before .before .before .before .before in
-    refused-so (handedBack (stateOf (start .args .self))) _ (placeTests _ _) (tooWide _ _ (start .args .f) ∷ []) (c .before .r .given .0 .0) (c .before .r .given .1)
+    refused-so (handedBack (stateOf (start .args .self))) _ (placeTests (start .args .self .shape) _) (tooWide _ _ (start .args .f) ∷ []) (c .before .r .given .0 .0) (c .before .r .given .1)
     (c .before .before .before .placed .ensures)
 
 returns-3 : tie.Need-returns-3
