@@ -1,8 +1,8 @@
 // Builds and surveys the table of every pair of widths from 1 to 15, plain and then with one, and writes
-// a line for each: "k m digest worst n side ties", or "k m one ..". The digest is that of the fields; worst, n and side are the
-// survey's; ties counts the entries that have a second value with the same worst error. The file
-// `stdout` is not this program's output: the program in `second/`, which tries every value for every
-// interval, wrote it by `second widths`.
+// a line for each: "k m digest worst n side ties", or "k m one ..". The digest is that of the fields;
+// worst, n and side are the survey's; ties counts the entries that have a second value with the same
+// worst error. The file `stdout` is not this program's output: the program in `second/`, which tries
+// every value for every interval, wrote it by `second widths`.
 ghost use Prim.Native.Nat.{_≤_};
 use programs::column;
 use programs::digest_of;

@@ -313,7 +313,7 @@ fn lend_to_read(digest: &mut u64, i: Inputs, cells: &[u16]) {
     read(digest, i, &cells[0..lent]);
 }
 
-// Stores f in a cell, where it may be no field of m bits; then a tally takes f, and what comes back
+// Stores f in a cell, where it may be no field; then a tally takes f, and what comes back
 // takes f % 4.
 fn damage(digest: &mut u64, i: Inputs, cells: &mut [u16]) {
     let at = i.n as usize % 64;

@@ -16,7 +16,8 @@ leastOf u i first (suc more) = min (worst u i first) (leastOf u i (suc first) mo
 unfoldable pub least : ℕ → ℕ → ℕ → ℕ → ℕ
 least u i first last = leastOf u i first (last - first)
 
--- ""Least worst error" means over all j from 2^m to 2^(m+1) - 1."
+-- ""Least worst error" means over all j from 2^m to 2^(m+1) - 1"; in tables with one "the cap is 2^(m+1), and least is over values up to
+-- that"
 abbrev pub leastWorst : Shape → ℕ → ℕ
 leastWorst s n = least (unit s) (iOf s n) (2 ^ s .m) (cap s)
 

@@ -24,7 +24,7 @@ pub fn left_number(shape: Shape, n: Interval) -> u64
     power(shape.k) + n.0 as u64
 }
 
-// The same by its kind.
+// The same as a `LeftEnd`.
 pub fn left_end(shape: Shape, n: Interval) -> LeftEnd
     requires { ⌜ GoodPlace shape (n .0) ⌝ }
     ensures { λ r. ⌜ r .0 ≡ iOf shape (n .0) ⌝ }

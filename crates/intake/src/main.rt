@@ -11,6 +11,7 @@
 // 7 comes first, then "too long", then the call's own numbers.
 ghost use mathlib.Core.Path.{_≡_};
 ghost use lib.ListN.{length};
+ghost use Rattle.listing_line.specs.Line.{asks, lineRead};
 ghost use Rattle.memory_text.specs.Read.{readReport};
 ghost use Rattle.intake.specs.Accepted.{cellsOf, Accepted};
 use libc::STDIN_FILENO;
@@ -46,20 +47,24 @@ fn refused_at(number: u64, place: u64) {
     long_column(place);
 }
 
+// Below, `line` is lent for the contracts alone: the table is judged as one of the shape that the line
+// names.
+
 // The one place that says so: of a text that was read, and whose every entry is best.
-fn passes(shape: Shape, memory: &[u8])
-    requires { ⌜ Accepted shape (now memory) ⌝ }
+fn passes(line: &[u8], shape: Shape, memory: &[u8])
+    requires { ⌜ (lineRead (now line) ≡ asks shape) × (Accepted shape (now memory)) ⌝ }
 {
     text(b"passes");
 }
 
 // What was read is never refused here, yet what the call answers is written. The text is lent for the
 // contract alone.
-fn check(shape: Shape, memory: &[u8], table: &[u16])
+fn check(line: &[u8], shape: Shape, memory: &[u8], table: &[u16])
+    requires { ⌜ lineRead (now line) ≡ asks shape ⌝ }
     requires { ⌜ (readReport shape (now memory) 32768 .number ≡ 0) × (now table ≡ cellsOf shape (now memory)) ⌝ }
 {
     match check_table(shape, table) {
-        CheckAnswer::Yes => passes(shape, memory),
+        CheckAnswer::Yes => passes(line, shape, memory),
         CheckAnswer::NotBest { n, worst, least } => {
             labelled(b"not best ", n.0 as u64);
             long_column(worst.0);
@@ -70,11 +75,13 @@ fn check(shape: Shape, memory: &[u8], table: &[u16])
     }
 }
 
-fn take(shape: Shape, memory: &[u8]) {
+fn take(line: &[u8], shape: Shape, memory: &[u8])
+    requires { ⌜ lineRead (now line) ≡ asks shape ⌝ }
+{
     let mut cells = zeroed();
     let table: &mut [u16] = &mut cells;
     match read_memory(shape, memory, table) {
-        ReadAnswer::Done => check(shape, memory, table),
+        ReadAnswer::Done => check(line, shape, memory, table),
         ReadAnswer::BadToken(at) => refused_at(8, at.0 as u64),
         ReadAnswer::PastTable(at) => refused_at(9, at.0 as u64),
         ReadAnswer::TooWide(at) => refused_at(5, at.0 as u64),
@@ -84,11 +91,13 @@ fn take(shape: Shape, memory: &[u8]) {
     }
 }
 
-fn take_if_short(shape: Shape, memory: &[u8]) {
+fn take_if_short(line: &[u8], shape: Shape, memory: &[u8])
+    requires { ⌜ lineRead (now line) ≡ asks shape ⌝ }
+{
     if LONGEST_TEXT < memory.len() {
         text(b"too long");
     } else {
-        take(shape, memory);
+        take(line, shape, memory);
     }
 }
 
@@ -114,8 +123,9 @@ fn answer(input: &[u8]) {
     if input.len() < end {
         return;
     }
-    match read_line(&input[0..end]) {
-        Reading::Asks(shape) => take_if_short(shape, &input[end..]),
+    let line = &input[0..end];
+    match read_line(line) {
+        Reading::Asks(shape) => take_if_short(line, shape, &input[end..]),
         Reading::Refused(r) => refused(r),
     }
 }

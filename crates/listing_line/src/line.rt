@@ -4,7 +4,7 @@ ghost use mathlib.Core.Path.{_≡_};
 ghost use Prim.Native.Nat.{_-_, _<_};
 ghost use lib.Dec.{eqb};
 ghost use lib.ListN.{length};
-ghost use Rattle.listing_line.specs.Line.{byteAt, isDigit, wordEnd, wordValue, oneAt, kindAt, kindEnd, kindWord, formed, reported, lineRead};
+ghost use Rattle.listing_line.specs.Line.{byteAt, isDigit, wordEnd, wordValue, oneAt, kindAt, kindWord, formed, reported, lineRead};
 use units::Kind;
 use units::Refusal;
 use units::Shape;

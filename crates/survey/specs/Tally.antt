@@ -11,7 +11,7 @@ use Rattle.survey.specs.declared.tallies.Tally.{Tally}
 use Rattle.survey.specs.declared.tallies.TallyAnswer.{TallyAnswer}
 use Rattle.survey.specs.declared.tallies.TallyAnswer.the-variants.{Taken, TooWide, Refused}
 
--- "It holds the widths, the next n and the finding so far"
+-- "It holds the widths, the next n and the finding so far", and the kind
 pub record State : Type 0 where
   pub shape : Shape
   pub next : ℕ
@@ -23,7 +23,7 @@ figuresOf f = record { worst = f .worst .0; n = f .n .0; side = sideNumber (f .s
 abbrev pub stateOf : Tally → State
 stateOf t = record { shape = t .shape; next = t .next .0; finding = figuresOf (t .finding) }
 
--- "A fresh one is given the widths and the first n"
+-- "A fresh one is given the widths and the first n", and the kind
 abbrev pub started : Shape → ℕ → State
 started s first = record { shape = s; next = first; finding = fresh }
 

@@ -70,7 +70,7 @@ impl Finding {
 
 impl Tally {
     // "A fresh one is given the widths and the first n; its finding is worst 0, n 0, side 0, and
-    // starting is never refused."
+    // starting is never refused." The widths come with the kind.
     pub fn start(shape: Shape, first: Interval) -> Tally
         ensures { λ r. ⌜ stateOf r ≡ started shape (first .0) ⌝ }
     {

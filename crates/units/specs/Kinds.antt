@@ -1,5 +1,5 @@
 -- What a kind of table is. Document 02, L5. A table's values, its best entries, what is refused with 5, how wide its memory text is and
--- which tables it may follow depend on its kind by this page alone. Assumes nothing.
+-- which tables it may be followed by depend on its kind by this page alone. Assumes nothing.
 use Prim.Native.Nat.{ℕ, _+_, _^_}
 use Rattle.units.specs.declared.kinds.Kind.{Kind}
 use Rattle.units.specs.declared.kinds.Kind.the-variants.{Plain, WithOne}
@@ -17,8 +17,8 @@ fieldsEndOf kind m = 2 ^ m + ones kind
 abbrev pub fieldBits : Kind → ℕ → ℕ
 fieldBits kind m = m + ones kind
 
--- "Demands 2 and 3 hold per kind, and from plain to with one; the step from with one to plain is not claimed": whether tables of one kind
--- may be followed by tables of another
-pub data MayFollow : Kind → Kind → Type 0 where
-  itself : (kind : Kind) → MayFollow kind kind
-  gains-one : MayFollow Plain WithOne
+-- "Demands 2 and 3 hold per kind, and from plain to with one; the step from with one to plain is not claimed": tables of the first kind may
+-- be followed by tables of the second
+pub data MayBeFollowedBy : Kind → Kind → Type 0 where
+  itself : (kind : Kind) → MayBeFollowedBy kind kind
+  gains-one : MayBeFollowedBy Plain WithOne

@@ -11,7 +11,7 @@ pub struct Shape {
 }
 
 impl Shape {
-    // k bits in, m bits out.
+    // k bits in, m bits out, and the kind.
     pub fn of(k: u32, m: u32, kind: Kind) -> Shape
         ensures { λ r. ⌜ r ≡ shape k m kind ⌝ }
     {

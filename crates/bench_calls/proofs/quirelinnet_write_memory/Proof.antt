@@ -1,7 +1,7 @@
 -- `bench_calls::quirelinnet_write_memory` meets its contract. Assumes nothing.
 use Rattle.memory_text.specs.Write.{reported}
 use Rattle.bench_calls.specs.Numbers.{writeNumbers}
-use Rattle.bench_calls.proofs.Laws.{numbers-told}
+use Rattle.bench_calls.proofs.Laws.{told-with}
 use borrow.Author.Needs.{needs}
 use Rattle.bench_calls.proofs.quirelinnet_write_memory.Statement.{statement}
 use Rattle.bench_calls.proofs.quirelinnet_write_memory.Tie as tie
@@ -10,22 +10,20 @@ returns : tie.Need-returns
 returns c =
     let told = c .before .before in
     let after = told .before .before .before .before in
-    let write = rw (after .before .before .shape-of .ensures) at (after .write-memory .ensures) in
-    (numbers-told reported writeNumbers (told .end .given .1) (write .0), write .1)
+    told-with reported writeNumbers (told .end .given .1) (rw (after .before .before .shape-of .ensures) at (after .write-memory .ensures))
 
 returns-2 : tie.Need-returns-2
 returns-2 c =
     let told = c .before .before .before in
     let after = told .before .before .before .before in
-    let write = rw (after .before .before .shape-of .ensures) at (after .write-memory .ensures) in
-    (numbers-told reported writeNumbers (told .n .given .1) (write .0), write .1)
+    told-with reported writeNumbers (told .n .given .1) (rw (after .before .before .shape-of .ensures) at (after .write-memory .ensures))
 
 returns-3 : tie.Need-returns-3
 returns-3 c =
     let told = c .before .before .before in
     let after = told .before .before .before .before in
-    let write = rw (after .before .before .shape-of .ensures) at (after .write-memory .ensures) in
-    (rw (c .before .number .ensures) (numbers-told reported writeNumbers (told .r .given .1) (write .0)), write .1)
+    rw (c .before .number .ensures)
+    (told-with reported writeNumbers (told .r .given .1) (rw (after .before .before .shape-of .ensures) at (after .write-memory .ensures)))
 
 pub quirelinnet-write-memory-spec : {M : Type 1} → statement M
 quirelinnet-write-memory-spec =

@@ -30,7 +30,7 @@ module _ {s : Shape} {n : ℕ} where
 
   -- a value in range is an entry's
   pub good-value : {j : ℕ} → GoodPlace s n → (2 ^ s .m ≤ j) × (j ≤ cap s) → GoodEntry s n j
-  good-value g range = record { place = g; above-0 = omega (arith, pow-pos (s .m)); entry = omega (arith, cap-within-one s) }
+  good-value g range = record { place = g; above-0 = omega (arith, pow-pos (s .m)); entry = range .1 }
 
   -- and so is that of a field that is not over-wide
   pub good-field : (f : ℕ) → GoodPlace s n → isWide s f ≡ false → GoodEntry s n (jOf s f)
@@ -44,7 +44,7 @@ module _ {s : Shape} {n : ℕ} where
 
   pub entry-bound : {j : ℕ} → GoodEntry s n j → j ≤ 2 ^ 16
   entry-bound {j} g =
-      omega (arith, g .entry, pow-mono {i = s .m + 1} {j = 16} (omega (arith, g .place .widths .narrow-out)))
+      omega (arith, g .entry, cap-within-one s, pow-mono {i = s .m + 1} {j = 16} (omega (arith, g .place .widths .narrow-out)))
 
   pub product-bound : {j : ℕ} → GoodEntry s n j → (iOf s n + 1) * j ≤ 2 ^ 32
   product-bound {j} g =

@@ -4,7 +4,7 @@ use mathlib.Core.Path.{_≡_, sym, ap, ap₂, subst, subst₂}
 use native.Mathlib.Nat.{le-trans, mul-le-mul-right, le-of-mul-le-mul-right, mod-lt}
 use native.Mathlib.Omega.{arith}
 use lib.Pow.{pow-add, pow-pos, shr-lt, split}
-use Rattle.units.specs.Kinds.{MayFollow}
+use Rattle.units.specs.Kinds.{MayBeFollowedBy}
 use Rattle.units.proofs.Laws.Kinds.{follows-scaled}
 use Rattle.units.proofs.Laws.Powers.{power-splits}
 use Rattle.units.specs.declared.shapes.Shape.{Shape}
@@ -35,8 +35,8 @@ module _ (u i x p q : ℕ) (left : i * p ≤ x) (right : x + 1 ≤ (i + 1) * p) 
       (least-below (u * (p * q)) x (mul-le-mul-right q (r .from)) (le-trans (mul-le-mul-right q (r .to)) fits))
       (narrower-interval-no-worse (r .j)))
 
--- two tables, the second of a kind that may follow the first's, and with neither width smaller
-module _ (s t : Shape) (follows : MayFollow (s .kind) (t .kind)) (wider : s .k ≤ t .k) (finer : s .m ≤ t .m) where
+-- two tables, the first of a kind that may be followed by the second's, and the second with neither width smaller
+module _ (s t : Shape) (follows : MayBeFollowedBy (s .kind) (t .kind)) (wider : s .k ≤ t .k) (finer : s .m ≤ t .m) where
   unit-scales : unit t ≡ unit s * (2 ^ (t .k - s .k) * 2 ^ (t .m - s .m))
   unit-scales =
       rw (unit-is s) (omega (arith, unit-is t, ap₂ (λ (x y : ℕ). x * y) (power-splits wider) (power-splits finer)))

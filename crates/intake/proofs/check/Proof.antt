@@ -8,11 +8,14 @@ use Rattle.intake.proofs.check.Tie as tie
 passes-requires : tie.Need-passes-requires
 passes-requires c κs =
     let check = c .before .before in
-    let start = check .before .before .before in
-    record {
-      read = start .pre .0;
-      best = sym (ap (checkReport (start .args .shape)) (start .pre .1)) ∙ sym (check .check .ensures) ∙ ap reported (c .enum-told .given .1);
-    }
+    let start = check .before .before .before .before in
+    let pre = start .pre in (
+      pre .0,
+      record {
+        read = pre .1 .0;
+        best = sym (ap (checkReport (start .args .shape)) (pre .1 .1)) ∙ sym (check .check .ensures) ∙ ap reported (c .enum-told .given .1);
+      },
+    )
 
 pub check-spec : {M : Type 1} → statement M
 check-spec =

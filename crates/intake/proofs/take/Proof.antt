@@ -11,11 +11,15 @@ check-requires : tie.Need-check-requires
 check-requires c κs =
     let read = c .before .before .before .before .before in
     let zeroed = read .before .before .before in
-    let args = zeroed .before .before .args in (
-      ap (λ (lent : ℕ). readReport (args .shape) (args .memory .now) lent .number) (zeroed .zeroed .ensures .1)
-          ∙ sym (ap (λ (r : Report). r .number) (read .read-memory .ensures .0))
-          ∙ ap (λ (a : ReadAnswer). reported a .number) (c .before .enum-told .given .1),
-      read .read-memory .ensures .1 ∙ ap (readCells (args .shape) (args .memory .now)) (zeroed .zeroed .ensures .0),
+    let start = zeroed .before .before .before in
+    let args = start .args in (
+      start .pre,
+      (
+        ap (λ (lent : ℕ). readReport (args .shape) (args .memory .now) lent .number) (zeroed .zeroed .ensures .1)
+            ∙ sym (ap (λ (r : Report). r .number) (read .read-memory .ensures .0))
+            ∙ ap (λ (a : ReadAnswer). reported a .number) (c .before .enum-told .given .1),
+        read .read-memory .ensures .1 ∙ ap (readCells (args .shape) (args .memory .now)) (zeroed .zeroed .ensures .0),
+      ),
     )
 
 pub take-spec : {M : Type 1} → statement M

@@ -11,11 +11,13 @@ send-requires : tie.Need-send-requires
 send-requires c κs =
     let wrote = c .before .before .before .before .before .before in
     let blank = wrote .before .before .before in
-    let start = blank .before .before in
+    let start = blank .before .before .before in
     let is = sym (ap reported (c .before .before .end .given .1)) ∙ wrote .write-memory .ensures .0 in
+    let text =
     ap₂ take (ap (λ (r : Report). r .length) is) (wrote .write-memory .ensures .1)
     ∙ done-wrote (start .args .shape) (start .args .table .now) (blank .blank .result) (sym (ap (λ (r : Report). r .number) is)) .text
-    ∙ start .pre
+    ∙ start .pre .1 in
+    (start .pre .0, text)
 
 pub write-spec : {M : Type 1} → statement M
 write-spec =

@@ -14,9 +14,10 @@ write-requires : tie.Need-write-requires
 write-requires c κs =
     let build = c .before .before .before .before .before in
     let zeroed = build .before .before .before in
-    let s = zeroed .before .args .shape in
+    let start = zeroed .before .before in
+    let s = start .args .shape in
     let good = table-good (done-so (tableTests s _) (omega arith) (c .before .enum-told .given .1) (build .build .ensures .0)) in
-    ap (memoryText s) (build .build .ensures .1) ∙ built-text s (zeroed .zeroed .result) good
+    (start .pre, ap (memoryText s) (build .build .ensures .1) ∙ built-text s (zeroed .zeroed .result) good)
 
 pub write-best-spec : {M : Type 1} → statement M
 write-best-spec =

@@ -1,4 +1,4 @@
--- The order, demand 2. Assumes nothing.
+-- The order, demand 2, of tables of either kind: a shape has its kind. Assumes nothing.
 --     built-reaches-least, built-entry    "every entry built has the least worst relative error of all m-bit entries .. and is the entry that
 --                                         document 01 names where two are equally good"
 --     bank-built-reaches-least, bank-built-entry    the same of a bank

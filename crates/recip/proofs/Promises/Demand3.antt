@@ -1,10 +1,10 @@
 -- The order, demand 3. Assumes nothing.
 --     nothing-loosens         "For each input interval of the second table, its best entry's worst error, as an exact fraction, is no larger
 --                             than that of the best entry of the first table whose interval contains it." Document 02: "per kind, and from
---                             plain to with one" (`MayFollow`)
+--                             plain to with one" (`MayBeFollowedBy`)
 --     every-interval-contained    and there is such an interval of the first table
 --     least-within-ceiling    "Where m is at least k, no best entry's worst error passes 2^m + 2^(k-1) parts in 2^(k+m+1)", and document 01's
---                             ceiling for m < k
+--                             ceiling for m < k, in tables of either kind
 -- They speak of `leastWorst`, which names no rounding rule, so no constant and no table of a wrong builder can meet them alone.
 -- Below, the same of every bound of the error over an interval.
 use Prim.Native.Nat.{ℕ, _+_, _≤_, _<_, _^_}
@@ -13,7 +13,7 @@ use lib.IntN.{pos}
 use lib.ListN.{length, getD}
 use lib.Pow.{pow-pos}
 use Rattle.units.specs.Inner.Good.{GoodTable}
-use Rattle.units.specs.Kinds.{MayFollow}
+use Rattle.units.specs.Kinds.{MayBeFollowedBy}
 use Rattle.units.specs.declared.shapes.Shape.{Shape}
 use Rattle.entry.specs.Errors.{unit, iOf, jOf}
 use Rattle.entry.specs.Everywhere.{_over_, Bounds}
@@ -25,9 +25,9 @@ use Rattle.table.proofs.Laws.Built.{built-reaches-least}
 pub use Rattle.entry.proofs.Laws.Narrowing.{nothing-loosens, every-interval-contained}
 pub use Rattle.entry.proofs.Laws.Ceiling.{least-within-ceiling}
 
--- two built tables, the second of a kind that may follow the first's and with neither width smaller: what bounds the error at every x of the first's interval bounds it at every
--- x of the second's that lies within it
-pub no-bound-loosens : (s t : Shape) → MayFollow (s .kind) (t .kind) → s .k ≤ t .k → s .m ≤ t .m
+-- two built tables, the first of a kind that may be followed by the second's, and the second with neither width smaller: what bounds the
+-- error at every x of the first's interval bounds it at every x of the second's that lies within it
+pub no-bound-loosens : (s t : Shape) → MayBeFollowedBy (s .kind) (t .kind) → s .k ≤ t .k → s .m ≤ t .m
     → (first second : List ℕ) → GoodTable s (length first) → GoodTable t (length second)
     → (n y : ℕ) → n < 2 ^ s .k → y < 2 ^ t .k → Inside s n t y
     → (a b : ℕ) → Bounds (2 ^ s .k) (2 ^ (s .m + 1)) (iOf s n) (jOf s (getD (built s first) n 0)) (pos a over b)

@@ -1,9 +1,9 @@
 -- Document 02, L5, "Entries of exactly one". The promises of the order are stated over any kind; here is what the kinds have of their own.
 -- Assumes nothing.
 --     kinds-build-alike, kinds-reach-alike    "For m >= k both kinds build the same table", so they have the same least errors
---     cap-by-kind                          the largest value is 2^(m+1) - 1, and in tables with one 2^(m+1)
---     bits-hold-fields, fewer-bits-do-not  a field needs m bits, and in tables with one m+1
--- and below, the example that the request begins with, and that it shows: "the step from with one to plain is not claimed".
+--     cap-by-kind                             the largest value is 2^(m+1) - 1, and in tables with one 2^(m+1)
+--     bits-hold-fields, fewer-bits-do-not     a field needs m bits, and in tables with one m+1
+-- Below is the example with which the request begins, and by it why "the step from with one to plain is not claimed".
 use Prim.Native.Nat.{_*_, _<_}
 use mathlib.Core.Path.{_≡_, refl}
 use native.Mathlib.Omega.{arith}
@@ -32,9 +32,9 @@ unfolding rule nearest fieldsEnd cap low high worst least leastOf
 index-0-of-12-3 = record { parts = refl; plain-value = refl; plain-least = refl; one-value = refl; one-least = refl }
 
 -- so from with one to plain the same interval's least error grows
-pub with-one-to-plain-loosens : Inside (shape 12 3 WithOne) 0 (shape 12 3 Plain) 0
+pub with-one-to-plain-can-loosen : Inside (shape 12 3 WithOne) 0 (shape 12 3 Plain) 0
     × (leastWorst (shape 12 3 WithOne) 0 * unit (shape 12 3 Plain) < leastWorst (shape 12 3 Plain) 0 * unit (shape 12 3 WithOne))
-with-one-to-plain-loosens = (
+with-one-to-plain-can-loosen = (
   record { left = omega arith; right = omega arith },
   rw (index-0-of-12-3 .plain-least, index-0-of-12-3 .one-least) (omega arith),
 )

@@ -17,7 +17,7 @@ rows-alike f g n zero alike = refl
 rows-alike f g n (suc count) alike =
     ap₂ (λ (x : ℕ) (xs : List ℕ). x ∷ xs) (alike n (omega arith)) (rows-alike f g (suc n) count (λ x h. alike x (omega arith)))
 
--- cell by cell, and refused alike
+-- cell by cell, also where both are refused
 pub kinds-build-alike : (k m : ℕ) (a b : Kind) → k ≤ m → (cells : List ℕ) → built (shape k m a) cells ≡ built (shape k m b) cells
 kinds-build-alike k m a b wide cells =
     ap (λ (fields : List ℕ). answer (λ (_ : Reply). cells) (fields ++ drop (0 + 2 ^ k) cells) (tableTests (shape k m a) (length cells)))

@@ -3,7 +3,7 @@ use Prim.Native.Nat.{ℕ, _+_, _-_, _*_, _^_, _≤_, _<_}
 use mathlib.Core.Path.{_≡_, ap}
 use native.Mathlib.Omega.{arith}
 use lib.Pow.{pow-add, pow-pos}
-use Rattle.units.specs.Kinds.{ones, fieldsEndOf, fieldBits, MayFollow, itself, gains-one}
+use Rattle.units.specs.Kinds.{ones, fieldsEndOf, fieldBits, MayBeFollowedBy, itself, gains-one}
 use Rattle.units.specs.declared.kinds.Kind.{Kind}
 use Rattle.units.specs.declared.kinds.Kind.the-variants.{Plain, WithOne}
 use Rattle.units.proofs.Laws.Powers.{power-splits}
@@ -26,8 +26,9 @@ fewer-bits-do-not WithOne m h =
     let e : fieldBits WithOne m - 1 ≡ m = omega arith in
     rw e (omega arith)
 
--- The largest values c and d of two tables: where the second may follow the first, and its values are q times as fine, it has the first's
-pub follows-scaled : {a b : Kind} → MayFollow a b → (c d x q : ℕ) → 0 < q → c + 1 ≡ x + ones a → d + 1 ≡ x * q + ones b → c * q ≤ d
+-- The largest values c and d of two tables: where the first may be followed by the second, whose values are q times as fine, the second has
+-- the first's
+pub follows-scaled : {a b : Kind} → MayBeFollowedBy a b → (c d x q : ℕ) → 0 < q → c + 1 ≡ x + ones a → d + 1 ≡ x * q + ones b → c * q ≤ d
 follows-scaled (itself Plain) c d x q h first second = omega (arith, ap (λ (y : ℕ). y * q) first)
 follows-scaled (itself WithOne) c d x q h first second = omega (arith, ap (λ (y : ℕ). y * q) first)
 follows-scaled gains-one c d x q h first second = omega (arith, ap (λ (y : ℕ). y * q) first)
