@@ -30,7 +30,7 @@ pub enum SurveyAnswer {
 
 // The survey of some cells, the first of them that of interval first. One pass: the first over-wide
 // field is the smallest n of 5, whatever was found before it. The side is told at the end: no `Finding`
-// is kept, which would cost each entry three instructions (docs/BENCHMARKS.md).
+// is kept, which would cost each entry four instructions (docs/BENCHMARKS.md).
 fn survey_fields(shape: Shape, first: u32, cells: &[u16]) -> SurveyAnswer
     requires { ⌜ (GoodWidths shape) × (first + length (now cells) ≤ 2 ^ shape .k) ⌝ }
     ensures { λ r. ⌜ reported r ≡ surveyAfter [] shape first (now (cells .entry)) ⌝ }
