@@ -4,7 +4,7 @@ ghost use Prim.Native.Nat.{_+_, _^_, _≤_};
 ghost use lib.Dec.{leb};
 ghost use Rattle.units.specs.Inner.Good.{GoodWidths};
 ghost use Rattle.entry.specs.Errors.{jOf};
-ghost use Rattle.entry.specs.Fields.{fieldsEnd, isWide, cap};
+ghost use Rattle.entry.specs.Fields.{fieldsEnd, isWide};
 use units::Entry;
 use units::Shape;
 use units::small_power;
@@ -60,13 +60,4 @@ pub fn entry_of(shape: Shape, f: u16) -> Entry
     ensures { λ r. ⌜ r .0 ≡ jOf shape f ⌝ }
 {
     fields_of(shape).entry(f)
-}
-
-// The largest value: that of the last field.
-pub fn cap_of(shape: Shape) -> Entry
-    requires { ⌜ GoodWidths shape ⌝ }
-    ensures { λ r. ⌜ r .0 ≡ cap shape ⌝ }
-{
-    let fields = fields_of(shape);
-    fields.entry((fields.end - 1) as u16)
 }

@@ -11,7 +11,6 @@ pub use call::ErrorAnswer;
 pub use call::entry_error;
 pub use call::placed;
 pub use choice::best_field;
-pub use choice::is_best;
 pub use choice::least;
 pub use fields::entry_of;
 pub use fields::fields_of;

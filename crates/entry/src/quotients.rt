@@ -4,7 +4,7 @@ ghost use Prim.Native.Nat.{_+_, _-_, _/_, _^_, _≤_, _<_, min};
 ghost use Rattle.units.specs.Inner.Good.{GoodWidths};
 ghost use Rattle.entry.specs.Fields.{fieldsEnd};
 ghost use Rattle.entry.specs.Inner.Good.{GoodPlace};
-ghost use Rattle.entry.specs.Inner.Quotient.{Before};
+ghost use Rattle.entry.specs.Inner.Quotient.{Before, slack, meets};
 use crate::fields::fields_of;
 use crate::numbers::left_number;
 use units::Interval;
@@ -67,5 +67,23 @@ impl Quotient {
             return quotient as u16;
         }
         (end - 1) as u16
+    }
+
+    // Whether f is best: the division, multiplied back. One product and no division. Where nothing is left
+    // over, the field below the quotient is as good.
+    pub fn is_best(self, shape: Shape, f: u16) -> bool
+        requires { ⌜ GoodWidths shape ⌝ }
+        ensures { λ r. ⌜ r ≡ meets (self .over) (self .by) (slack shape) (fieldsEnd shape) f ⌝ }
+    {
+        let over = self.over as u64;
+        let by = self.by as u64;
+        let product = by * f as u64;
+        if over < product {
+            return false;
+        }
+        if f as u32 + 1 == fields_of(shape).end {
+            return true;
+        }
+        over < product + by + 1
     }
 }

@@ -5,3 +5,4 @@ pub mod Tests
 pub mod Good
 pub mod OneToOne
 pub mod Lists
+pub mod Truth

@@ -10,9 +10,9 @@ ghost use Rattle.entry.specs.Least.{leastWorst, isBest};
 ghost use Rattle.table.specs.Wide.{anyWide};
 ghost use Rattle.verdict.specs.Check.{reported, notBest, firstFailing, checkReport};
 use entry::entry_of;
-use entry::is_best;
 use entry::larger_of;
 use entry::least;
+use entry::quotient_before;
 use table::FieldsOutcome;
 use table::whole_fields;
 use units::Entry;
@@ -48,21 +48,22 @@ fn not_best(shape: Shape, n: Interval, j: Entry) -> CheckAnswer
 }
 
 // "The scan ends there and yields that finding": a loop whose break gives the first entry that isn't
-// best, or yes at the end. One product and no division for an entry that passes.
+// best, or yes at the end. The builder's quotient goes along: one product and no division for an entry
+// that passes.
 fn scan(shape: Shape, cells: &[u16]) -> CheckAnswer
     requires { ⌜ (GoodWidths shape) × (length (now cells) ≤ 2 ^ shape .k) ⌝ }
     requires { ⌜ anyWide shape (now cells) ≡ false ⌝ }
     ensures { λ r. ⌜ reported r ≡ firstFailing (isBest shape) shape 0 (now (cells .entry)) ⌝ }
 {
+    let mut quotient = quotient_before(shape, Interval(0));
     let mut at: usize = 0;
     loop {
         if cells.len() <= at {
             break CheckAnswer::Yes;
         }
-        let n = Interval(at as u32);
-        let j = entry_of(shape, cells[at]);
-        if !is_best(shape, n, j) {
-            break not_best(shape, n, j);
+        quotient = quotient.next();
+        if !quotient.is_best(shape, cells[at]) {
+            break not_best(shape, Interval(at as u32), entry_of(shape, cells[at]));
         }
         at += 1;
     }

@@ -4,7 +4,7 @@ use mathlib.Core.Bool.{true, false}
 use mathlib.Core.Path.{_≡_, ap, _∙_}
 use native.Mathlib.Nat.{mul-le-mul-left, le-trans, le-of-lt}
 use native.Mathlib.Omega.{arith}
-use borrow.Author.Tests.{eqb-true}
+use borrow.Author.Tests.{eq-eqb, eqb-true}
 use lib.Pow.{pow-add, pow-pos}
 use Rattle.units.specs.declared.shapes.Shape.{Shape}
 use Rattle.entry.specs.Errors.{unit, iOf, jOf, worst}
@@ -12,8 +12,9 @@ use Rattle.entry.specs.Fields.{cap, isWide}
 use Rattle.entry.specs.Least.{leastWorst, isBest}
 use Rattle.entry.specs.Rule.{ruleValue, ruleField}
 use Rattle.entry.proofs.Laws.Fields.{smallest-within-cap, range-is-field}
+use Rattle.entry.proofs.Laws.Unbeaten.{Passes}
 use Rattle.entry.proofs.Laws.Rule.{rule-at-most, rule-at-least, rule-reaches-least}
-use Rattle.entry.proofs.Laws.Best.{one-product, one-product-decides, least-passes, two-best-are-neighbours}
+use Rattle.entry.proofs.Laws.Best.{passes-least, least-passes, two-best-are-neighbours}
 
 pub unit-is : (s : Shape) → unit s ≡ 2 * (2 ^ s .k * 2 ^ s .m)
 unit-is s = omega (arith, pow-add 2 (s .k + s .m) 1, pow-add 2 (s .k) (s .m))
@@ -21,6 +22,9 @@ unit-is s = omega (arith, pow-add 2 (s .k + s .m) 1, pow-add 2 (s .k) (s .m))
 -- 2^k steps of an interval's left end, times 2^(m+1) steps of an entry
 pub unit-splits : (s : Shape) → unit s ≡ 2 ^ s .k * 2 ^ (s .m + 1)
 unit-splits s = omega (arith, unit-is s, ap (λ (x : ℕ). 2 ^ s .k * x) (pow-add 2 (s .m) 1))
+
+pub left-end-positive : (s : Shape) (n : ℕ) → 0 < iOf s n
+left-end-positive s n = omega (arith, pow-pos (s .k))
 
 module _ (s : Shape) {n : ℕ} (h : n < 2 ^ s .k) where
   -- the smallest value is not too large at the right end of any interval
@@ -48,15 +52,18 @@ module _ (s : Shape) {n : ℕ} (h : n < 2 ^ s .k) where
   pub rule-field-reaches-least : worst (unit s) (iOf s n) (jOf s (ruleField s n)) ≡ leastWorst s n
   rule-field-reaches-least = ap (worst (unit s) (iOf s n)) rule-field-is ∙ rule-value-reaches-least
 
-  pub one-product-is-best : {j : ℕ} → 2 ^ s .m ≤ j → j ≤ cap s → one-product (unit s) (iOf s n) (cap s) j ≡ isBest s n j
-  one-product-is-best from to =
-      one-product-decides (unit s) (iOf s n) (cap s) (omega (arith, pow-pos (s .k))) (2 ^ s .m) smallest-within from to
+  -- the least worst error is had by the values that pass, and by no other
+  module _ {j : ℕ} (from : 2 ^ s .m ≤ j) (to : j ≤ cap s) where
+    pub passes-best : Passes (unit s) (iOf s n) (cap s) j → isBest s n j ≡ true
+    passes-best p = eq-eqb _ _ (passes-least (unit s) (iOf s n) (cap s) (left-end-positive s n) (2 ^ s .m) smallest-within from to p)
+
+    pub best-passes : isBest s n j ≡ true → Passes (unit s) (iOf s n) (cap s) j
+    best-passes e = least-passes (unit s) (iOf s n) (cap s) (left-end-positive s n) (2 ^ s .m) smallest-within from to (eqb-true _ _ e)
 
   -- Document 01: "Two neighbouring values can be equally good": they are the rule's and the one below it
   pub two-best : {j x : ℕ} → 2 ^ s .m ≤ j → j < x → x ≤ cap s → isBest s n j ≡ true → isBest s n x ≡ true
       → (x ≡ ruleValue s n) × (suc j ≡ x)
   two-best {j} {x} from l to best-j best-x =
-      let positive : 0 < iOf s n = omega (arith, pow-pos (s .k)) in
-      two-best-are-neighbours (unit s) (iOf s n) (cap s) positive l to
-      (least-passes (unit s) (iOf s n) (cap s) positive (2 ^ s .m) smallest-within from (le-trans (le-of-lt l) to) (eqb-true _ _ best-j))
-      (least-passes (unit s) (iOf s n) (cap s) positive (2 ^ s .m) smallest-within (le-trans from (le-of-lt l)) to (eqb-true _ _ best-x))
+      two-best-are-neighbours (unit s) (iOf s n) (cap s) (left-end-positive s n) l to
+      (best-passes from (le-trans (le-of-lt l) to) best-j)
+      (best-passes (le-trans from (le-of-lt l)) to best-x)

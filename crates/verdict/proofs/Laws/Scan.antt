@@ -1,6 +1,6 @@
 -- A scan for the first entry that fails a test takes one cell after the other. The test, `good`, is any test of an n and a j.
 -- Assumes nothing.
-use Prim.Native.Nat.{ℕ, zero, suc, _+_, _^_, _≤_, _<_}
+use Prim.Native.Nat.{ℕ, zero, suc, _+_, _≤_, _<_}
 use mathlib.Core.Bool.{Bool, true, false, cond, false≢true}
 use mathlib.Core.List.{List, [], _∷_}
 use mathlib.Core.Path.{_≡_, refl, sym, _∙_}
@@ -12,9 +12,8 @@ use lib.Seq.{drop-cons}
 use Rattle.units.specs.declared.shapes.Shape.{Shape}
 use Rattle.units.proofs.Laws.Order.{by-order}
 use Rattle.entry.specs.Errors.{unit, iOf, jOf, worst}
-use Rattle.entry.specs.Fields.{isWide, cap}
+use Rattle.entry.specs.Fields.{isWide}
 use Rattle.entry.specs.Least.{leastWorst}
-use Rattle.entry.proofs.Laws.Fields.{field-in-range}
 use Rattle.table.specs.Wide.{anyWide}
 use Rattle.table.proofs.Laws.First.{none-from}
 use Rattle.verdict.specs.Check.{Report, passed, notBest, firstFailing}
@@ -148,10 +147,10 @@ module _ {good : ℕ → ℕ → Bool} {s : Shape} {cells : List ℕ} {at : ℕ}
   pub scanning-ends : length cells ≤ at → passed ≡ scanFrom good s cells 0
   scanning-ends past = sym (ends-yes good s cells at past) ∙ v .left-is
 
-  module _ (inside : at < length cells) {j : ℕ} (is : j ≡ jOf s (getD cells at 0)) where
-    pub scanning-value : (2 ^ s .m ≤ j) × (j ≤ cap s)
-    scanning-value = rw is (field-in-range s (getD cells at 0) (none-from (isWide s) cells at inside (v .narrow) .0))
+  pub scanning-narrow : at < length cells → isWide s (getD cells at 0) ≡ false
+  scanning-narrow inside = none-from (isWide s) cells at inside (v .narrow) .0
 
+  module _ (inside : at < length cells) {j : ℕ} (is : j ≡ jOf s (getD cells at 0)) where
     pub scanning-goes-on : good at j ≡ true → Scanning good s cells (at + 1)
     scanning-goes-on passes =
         record {
