@@ -1,5 +1,7 @@
 // The calls that `bench/run` counts, as C calls them. A slice comes as a pointer and a length. What a
 // call answers goes into `out`: document 01's number, and then its values, unused ones zero.
+#![tactic(auto)]
+
 ghost use Rattle.std.specs.Prelude.{◌≡◌, length};
 ghost use Rattle.units.specs.Refusals.{refusal, table_tests};
 ghost use Rattle.table.specs.Build.{built};

@@ -3,6 +3,8 @@
 // worst, n and side are the survey's; ties counts the entries that have a second value with the same
 // worst error. The file `stdout` is not this program's output: the program in `second/`, which tries
 // every value for every interval, wrote it by `second widths`.
+#![tactic(auto)]
+
 ghost use Rattle.std.specs.Prelude.{◌≤◌};
 
 use programs::{column, digest_of, long_column, shape_named, text, zeroed};

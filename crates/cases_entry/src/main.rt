@@ -1,6 +1,8 @@
 // Runs "Entry error" at the ends of its inputs, and over the source's Table 1. The file `stdout` is
 // not this program's output: its edge cases are worked out from document 01's definitions, and its
 // last 32 lines are transcribed from the source.
+#![tactic(auto)]
+
 ghost use Rattle.std.specs.Prelude.{◌<◌, ◌≤◌};
 
 use entry::{ErrorAnswer, best_field, entry_error, entry_of};

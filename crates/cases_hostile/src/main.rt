@@ -3,6 +3,8 @@
 // which a line is written after each 1000 calls: "calls digest". The order of the draws and what is
 // folded into the digest are those of `second/README.md`. The file `stdout` is not this program's
 // output: the program in `second/` wrote it by `second hostile`.
+#![tactic(auto)]
+
 ghost use Rattle.std.specs.Prelude.{◌<◌, ◌≤◌};
 
 use programs::{digest_of, drawn_kind, long_column, number, pick, stir, stir_cells, text, width};

@@ -1,6 +1,8 @@
 // Looks up every divisor from 1 to 65535 in three built tables, and then divisors at the ends of what
 // is let in and past them. The file `stdout` is not this program's output: the program in `second/`,
 // which tries every shift, wrote it by `second lookups`.
+#![tactic(auto)]
+
 ghost use Rattle.std.specs.Prelude.{◌<◌};
 
 use programs::{column, long_column, marked, shape_named, stir, text};

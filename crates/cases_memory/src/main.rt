@@ -5,6 +5,8 @@
 // was given. The order of the draws and what is folded into the digest are those of `second/README.md`,
 // "Mode 4". The file `stdout` is not this program's output: the program in `second/` wrote it by
 // `second memory`.
+#![tactic(auto)]
+
 ghost use Rattle.std.specs.Prelude.{◌≡◌, ◌<◌, ◌≤◌, length};
 
 use programs::{

@@ -1,6 +1,8 @@
 // Runs the surveys, the tally and the check. The file `stdout` is not this program's output: its first
 // lines are transcribed from the source's Tables 6 and 7 (row k = 13, g = 0 of Table 7 is a misprint;
 // the worst is at n = 45), and the others are worked out from document 01's definitions.
+#![tactic(auto)]
+
 ghost use Rattle.std.specs.Prelude.{◌<◌, ◌≤◌};
 
 use programs::{column, labelled, long_column, shape_named, text, zeroed};

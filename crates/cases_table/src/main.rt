@@ -2,6 +2,8 @@
 // that all hold 43981; after it the program shows how many cells differ from that, and a digest of
 // them all. The file `stdout` is not this program's output: it is worked out from document 01's
 // definitions, with the best value of each interval found by comparing worst errors.
+#![tactic(auto)]
+
 ghost use Rattle.std.specs.Prelude.{◌<◌};
 
 use programs::{column, digest_of, long_column, marked, text};

@@ -8,7 +8,7 @@ use crate::measure::{Errors, errors_of};
 use units::{Interval, Outcome, Refusal, Shape, interval_place, widths};
 
 // What "Entry error" answers.
-#[derive(Drop)]
+#[derive(Clone, Copy)]
 pub enum ErrorAnswer {
     Done(Errors),
     TooWide(Interval),

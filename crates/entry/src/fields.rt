@@ -7,7 +7,7 @@ ghost use Rattle.entry.specs.Fields.{fields_end, is_wide};
 use units::{Entry, Shape, small_power};
 
 // The fields of a table: the value that field 0 stands for, and the first number that is no field.
-#[derive(Drop)]
+#[derive(Clone, Copy)]
 pub struct Fields {
     pub first: Entry,
     pub end: u32,

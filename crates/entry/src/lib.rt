@@ -1,5 +1,7 @@
 // One entry of a reciprocal table: its exact errors, its best value, and the test whether a value is
 // best. `entry_error` is a call of document 01; the rest is for the crates above.
+#![tactic(auto)]
+
 mod call;
 mod choice;
 mod fields;

@@ -9,7 +9,7 @@ use crate::numbers::{left_end, unit_of};
 use units::{Entry, Error, Interval, Shape, Side, Worst};
 
 // "low, high, worst and side" of an entry, in parts of 2^(k+m+1).
-#[derive(Drop)]
+#[derive(Clone, Copy)]
 pub struct Errors {
     pub low: Error,
     pub high: Error,
@@ -19,14 +19,14 @@ pub struct Errors {
 
 // The size of the larger of an entry's two errors, and the sum of the products at both ends, (2i+1)·j,
 // which tells the end that has it.
-#[derive(Drop)]
+#[derive(Clone, Copy)]
 pub struct Larger {
     pub worst: Worst,
     pub middle: u64,
 }
 
 // 2^(k+m+1), i·j and (i+1)·j: high is unit - left, and low is unit - right.
-#[derive(Drop)]
+#[derive(Clone, Copy)]
 struct Products {
     unit: u64,
     left: u64,

@@ -16,7 +16,7 @@ use units::{Interval, Shape, power};
 //
 // so over/by, rounded down, is the whole number nearest to 2^(k+m+2)/(2i+1), less the 2^m that is not
 // stored; over falls by 2^(m+1) - 1 and by rises by 2. It is worked out as (2^(k+2) - by)·2^m + i.
-#[derive(Drop)]
+#[derive(Clone, Copy)]
 pub struct Quotient {
     pub over: u32,
     pub by: u32,

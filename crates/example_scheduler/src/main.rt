@@ -2,6 +2,8 @@
 // checks the images that reach it, and picks the card for a retry. Rattle proves each function here
 // by itself. The file `stdout` is not this program's output: it is worked out from the documents'
 // definitions.
+#![tactic(auto)]
+
 ghost use Rattle.std.specs.Prelude.{◌*◌, ◌≤◌, ◌≡◌, leb};
 
 use programs::{labelled, text};
@@ -12,7 +14,7 @@ use recip::{
 
 // A family of cards: k bits of the divisor in, m bits of the reciprocal out, and no wire for 1.0. Its
 // errors are counted in parts of a whole, 2^(k+m+1).
-#[derive(Drop)]
+#[derive(Clone, Copy)]
 struct Card {
     shape: Shape,
     whole: u64,

@@ -9,6 +9,8 @@
 //     too long                  the text has more than 1,048,576 bytes
 //
 // 7 comes first, then "too long", then the call's own numbers.
+#![tactic(auto)]
+
 ghost use Rattle.std.specs.Prelude.{◌≡◌, length};
 ghost use Rattle.listing_line.specs.Line.{asks, line_read};
 ghost use Rattle.memory_text.specs.Read.{read_report};

@@ -1,6 +1,8 @@
 // The listing program: it reads the shape of a table from standard input and writes the best table of
 // that shape, its errors and its survey, or the refusal. What it writes is in `listing_text`, proved byte
 // for byte; here is the order of the calls. `send` alone writes, and lines of that text only.
+#![tactic(auto)]
+
 ghost use Rattle.std.specs.Prelude.{◌≡◌, length};
 ghost use Rattle.survey.specs.Tally.{figures_of};
 ghost use Rattle.units.specs.Refusals.{refusal_number};

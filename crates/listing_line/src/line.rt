@@ -7,7 +7,7 @@ use units::{Kind, Refusal, Shape};
 
 // What the input says: the shape of the table that it asks for, with widths in any range, or the
 // refusal of its form.
-#[derive(Drop)]
+#[derive(Clone, Copy)]
 pub enum Reading {
     Asks(Shape),
     Refused(Refusal),

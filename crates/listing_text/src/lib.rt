@@ -1,4 +1,6 @@
 // The listing's text, byte for byte.
+#![tactic(auto)]
+
 mod digits;
 mod fields;
 mod lines;

@@ -9,7 +9,7 @@ use survey::Finding;
 use units::{Interval, Shape, power, small_power};
 
 // The lines before `next` are in the page, in its bytes up to `end`.
-#[derive(Drop)]
+#[derive(Clone, Copy)]
 pub struct Filled {
     pub next: u32,
     pub end: usize,

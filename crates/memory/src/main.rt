@@ -1,5 +1,7 @@
 // The program `memory`: it reads the shape of a table from standard input, in the listing's form, and
 // writes the memory text of the best table of that shape, or the refusal.
+#![tactic(auto)]
+
 ghost use Rattle.std.specs.Prelude.{◌≡◌, length, take};
 ghost use Rattle.listing_line.specs.Line.{asks, line_read};
 ghost use Rattle.memory_text.specs.Write.{memory_text};

@@ -1,4 +1,6 @@
 // Memory text, as Verilog's $readmemh reads it: a table written as text, and read back from it.
+#![tactic(auto)]
+
 mod reading;
 mod storing;
 mod writing;

@@ -9,7 +9,7 @@ use memory_tokens::{Next, next_token};
 use units::{Interval, Offset, Outcome, Refusal, Shape, power, whole_table};
 
 // What "Read memory" answers.
-#[derive(Drop)]
+#[derive(Clone, Copy)]
 pub enum ReadAnswer {
     Done,
     // 8: a bad character, an @ without digits or an unfinished comment.

@@ -10,13 +10,13 @@ use memory_tokens::Word;
 use units::Shape;
 
 // How far a reading has come: where the next value goes, and how many cells were given.
-#[derive(Drop)]
+#[derive(Clone, Copy)]
 pub(crate) struct Progress {
     pub address: usize,
     pub given: usize,
 }
 
-#[derive(Drop)]
+#[derive(Clone, Copy)]
 pub(crate) enum Step {
     On(Progress),
     Stop(ReadAnswer),

@@ -7,7 +7,7 @@ use table::{FieldsOutcome, whole_fields};
 use units::{Interval, Offset, Refusal, Shape, power};
 
 // What "Write memory" answers.
-#[derive(Drop)]
+#[derive(Clone, Copy)]
 pub enum WriteAnswer {
     Written(Offset),
     TooWide(Interval),

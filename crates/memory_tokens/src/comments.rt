@@ -6,7 +6,7 @@ ghost use Rattle.memory_tokens.specs.Inner.Places.{CommentEnds, CommentAt, GapEn
 use crate::bytes::{is_white, opens};
 
 // A comment at a place: there is none, or the place after it, or it has no end.
-#[derive(Drop)]
+#[derive(Clone, Copy)]
 pub(crate) enum Comment {
     NoComment,
     UpTo(usize),
@@ -14,7 +14,7 @@ pub(crate) enum Comment {
 }
 
 // What stands after a gap between tokens.
-#[derive(Drop)]
+#[derive(Clone, Copy)]
 pub(crate) enum Gap {
     TextEnd,
     Unfinished(usize),

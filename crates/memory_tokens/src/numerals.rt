@@ -5,7 +5,7 @@ ghost use Rattle.memory_tokens.specs.Inner.Places.{capped, RestShown, NumeralAt}
 use crate::bytes::{digit_of, ends_before};
 
 // What the digits at a place show, and the place after them.
-#[derive(Drop)]
+#[derive(Clone, Copy)]
 pub(crate) enum Numeral {
     NoNumber,
     Shows { value: u32, end: usize },

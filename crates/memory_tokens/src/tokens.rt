@@ -7,7 +7,7 @@ use crate::numerals::{Numeral, numeral_at};
 use units::Offset;
 
 // What a token says: where it begins, whether it is an address, and its number.
-#[derive(Drop)]
+#[derive(Clone, Copy)]
 pub struct Word {
     pub from: Offset,
     pub address: bool,
@@ -15,7 +15,7 @@ pub struct Word {
 }
 
 // The next token, and the place after it.
-#[derive(Drop)]
+#[derive(Clone, Copy)]
 pub enum Next {
     NoMore,
     Faulty(Offset),

@@ -1,5 +1,7 @@
 // What the programs over the library share: writing, the digest of cells and bytes, buffers, and numbers
 // and kinds that are drawn.
+#![tactic(auto)]
+
 mod cells;
 mod drawing;
 mod kinds;

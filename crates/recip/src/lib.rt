@@ -1,6 +1,7 @@
 // Reciprocal tables, k bits of a divisor in and m bits of its reciprocal out: every call and type of the
 // documents. Every call takes any numbers and any cells, ends, and answers a refusal number where it
 // cannot do what was asked; a refused call writes nothing.
+#![tactic(auto)]
 
 // The kinds of numbers: n of an interval, j of an entry, an error with its sign, and its size; s of a
 // divisor's shift; the side of an entry at which its error is larger; the offset of a byte in a text;

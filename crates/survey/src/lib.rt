@@ -1,4 +1,6 @@
 // The exact worst error of any table: a running tally, the survey of a table, and that of a bank.
+#![tactic(auto)]
+
 mod surveys;
 mod tallies;
 

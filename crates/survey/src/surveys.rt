@@ -10,7 +10,7 @@ use table::{BankAnswer, named_bank};
 use units::{Interval, Outcome, Refusal, Shape, Worst, power, widths};
 
 // What every survey answers.
-#[derive(Drop)]
+#[derive(Clone, Copy)]
 pub enum SurveyAnswer {
     Surveyed(Finding),
     TooWide(Interval),

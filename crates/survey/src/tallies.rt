@@ -9,7 +9,7 @@ use entry::{entry_of, is_wide, larger_of, placed, side_of};
 use units::{Entry, Interval, Outcome, Refusal, Shape, Side, Worst};
 
 // The largest worst error so far, the smallest n that has it, and that entry's side.
-#[derive(Drop)]
+#[derive(Clone, Copy)]
 pub struct Finding {
     pub worst: Worst,
     pub n: Interval,
@@ -17,7 +17,7 @@ pub struct Finding {
 }
 
 // The survey's state: the shape, the next n and the finding so far. Its fields may hold anything.
-#[derive(Drop)]
+#[derive(Clone, Copy)]
 pub struct Tally {
     pub shape: Shape,
     pub next: Interval,
@@ -25,7 +25,7 @@ pub struct Tally {
 }
 
 // What taking a field answers. A refused tally comes back as it was.
-#[derive(Drop)]
+#[derive(Clone, Copy)]
 pub enum TallyAnswer {
     Taken(Tally),
     TooWide(Interval, Tally),

@@ -8,14 +8,14 @@ ghost use Rattle.table.specs.Banks.{bank_size, bank_start, bank_name, bank_place
 use units::{Outcome, Refusal, Shape, bank_height, bank_number, few_cells, power, widths};
 
 // The cells from first up to end, which is not among them.
-#[derive(Drop)]
+#[derive(Clone, Copy)]
 pub struct Stretch {
     pub first: usize,
     pub end: usize,
 }
 
 // Where a bank lies, or why there is none.
-#[derive(Drop)]
+#[derive(Clone, Copy)]
 pub enum BankAnswer {
     At(Stretch),
     Refused(Refusal),

@@ -9,7 +9,7 @@ use entry::is_wide;
 use units::{Interval, Outcome, Refusal, Shape, power, whole_table};
 
 // What the tests of a table and its fields end in.
-#[derive(Drop)]
+#[derive(Clone, Copy)]
 pub enum FieldsOutcome {
     Done,
     TooWide(Interval),

@@ -1,5 +1,7 @@
 // Tables of fields: building one or a bank of it, showing a bank, looking a divisor up, and the tests
 // of a whole table.
+#![tactic(auto)]
+
 mod banks;
 mod builders;
 mod fields;

@@ -9,7 +9,7 @@ use entry::fields_of;
 use units::{Entry, Interval, Outcome, Refusal, Shape, Shift, divisor_range, power, whole_table};
 
 // What "Look up" answers.
-#[derive(Drop)]
+#[derive(Clone, Copy)]
 pub enum LookupAnswer {
     Found { s: Shift, n: Interval, j: Entry },
     TooWide(Interval),

@@ -7,35 +7,35 @@ ghost use Rattle.units.specs.Sides.{side_number};
 // units".)
 
 // The number n of an interval, from 0 to 2^k - 1.
-#[derive(Drop)]
+#[derive(Clone, Copy)]
 pub struct Interval(pub u32);
 
 // The left end i = 2^k + n of an interval, which is at i/2^k.
-#[derive(Drop)]
+#[derive(Clone, Copy)]
 pub struct LeftEnd(pub u32);
 
 // The number j of an entry, which stands for j/2^(m+1).
-#[derive(Drop)]
+#[derive(Clone, Copy)]
 pub struct Entry(pub u32);
 
 // The number s of places by which a divisor X is shifted to X·2^s.
-#[derive(Drop)]
+#[derive(Clone, Copy)]
 pub struct Shift(pub u32);
 
 // The offset of a byte in a text, which counts bytes from 0. A text's length is the offset of its end.
-#[derive(Drop)]
+#[derive(Clone, Copy)]
 pub struct Offset(pub usize);
 
 // An error at one end of an interval, in parts of 2^(k+m+1). It has a sign.
-#[derive(Drop)]
+#[derive(Clone, Copy)]
 pub struct Error(pub i64);
 
 // The size of an error, in parts of 2^(k+m+1).
-#[derive(Drop)]
+#[derive(Clone, Copy)]
 pub struct Worst(pub u64);
 
 // The end of the interval at which an entry's error is larger in size.
-#[derive(Drop)]
+#[derive(Clone, Copy)]
 pub enum Side {
     Left,
     Right,

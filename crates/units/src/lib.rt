@@ -1,5 +1,7 @@
 // The kinds of numbers that a reciprocal table is counted in, the kinds and the shape of a table, the
 // numbers by which a call is refused, and powers of two. Every crate above stands on this one.
+#![tactic(auto)]
+
 mod counts;
 mod kinds;
 mod powers;

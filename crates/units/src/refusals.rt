@@ -8,7 +8,7 @@ use crate::shapes::Shape;
 
 // The refusals that give a number only. Number 5 names an interval besides, so it stands beside them
 // in every answer, and so do those of a memory text that name a place: 8, 9, 10 and 11.
-#[derive(Drop)]
+#[derive(Clone, Copy)]
 pub enum Refusal {
     // 1: k is not from 1 to 15.
     InputWidth,
@@ -44,7 +44,7 @@ impl Refusal {
 }
 
 // The answer of a call that gives a number only, and of every list of tests: "done", or the refusal.
-#[derive(Drop)]
+#[derive(Clone, Copy)]
 pub enum Outcome {
     Done,
     Refused(Refusal),

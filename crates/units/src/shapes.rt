@@ -5,7 +5,7 @@ use crate::kinds::Kind;
 
 // What a card claims of its table: k bits of a divisor in, m bits of its reciprocal out, and its kind.
 // Any numbers can stand here; every call tests them.
-#[derive(Drop)]
+#[derive(Clone, Copy)]
 pub struct Shape {
     pub k: u32,
     pub m: u32,

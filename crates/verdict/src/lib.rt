@@ -1,4 +1,6 @@
 // The call "Check" of document 01: whether every entry of a table is best.
+#![tactic(auto)]
+
 ghost use Rattle.std.specs.Prelude.{◌≡◌, false, ◌≤◌, ◌^◌, length};
 ghost use Rattle.units.specs.Inner.Good.{GoodWidths};
 ghost use Rattle.entry.specs.Errors.{unit, i_of, worst};
@@ -12,7 +14,7 @@ use table::{FieldsOutcome, whole_fields};
 use units::{Entry, Interval, Refusal, Shape, Worst, power};
 
 // What "Check" answers.
-#[derive(Drop)]
+#[derive(Clone, Copy)]
 pub enum CheckAnswer {
     Yes,
     NotBest {
