@@ -1,7 +1,6 @@
 -- `units::few_cells` meets its contract: the cells reach 2^w or are fewer. Assumes nothing.
 use Prim.Native.Nat.{◌^◌}
 use mathlib.Core.Path.{sym, ◌∙◌}
-use Rattle.std.proofs.Common.{rules}
 use borrow.Author.Tests.{leb-true, leb-false, lt-ltb, le-ltb}
 use Rattle.units.specs.Refusals.{answer}
 use Rattle.units.proofs.refusals.few_cells.Goals as goal

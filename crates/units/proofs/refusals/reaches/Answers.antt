@@ -2,7 +2,6 @@
 use Prim.Native.Nat.{◌^◌}
 use mathlib.Core.Path.{sym}
 use native.Mathlib.Omega.{arith}
-use Rattle.std.proofs.Common.{rules}
 use borrow.Author.Tests.{lt-leb}
 use lib.Pow.{pow_mono}
 use Rattle.units.proofs.refusals.reaches.Goals as goal

@@ -1,6 +1,5 @@
 -- `units::whole_table` meets its contract: the tests of the widths, and after them that of the cells. Assumes nothing.
 use mathlib.Core.Path.{sym, ◌∙◌}
-use Rattle.std.proofs.Common.{rules}
 use Rattle.units.specs.Refusals.{answer}
 use Rattle.units.proofs.refusals.whole_table.Goals as goal
 

@@ -1,7 +1,6 @@
 -- `units::widths` meets its contract: the two tests, one after the other. Assumes nothing.
 use mathlib.Core.List.{[], ◌∷◌}
 use native.Mathlib.Omega.{arith}
-use Rattle.std.proofs.Common.{rules}
 use Rattle.units.specs.Refusals.{input_width, output_width}
 use Rattle.units.proofs.Laws.Tests.{then_is}
 use Rattle.units.proofs.refusals.widths.Goals as goal
