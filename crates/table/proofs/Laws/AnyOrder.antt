@@ -97,6 +97,7 @@ module _ (field : ℕ → ℕ) (k h : ℕ) (low : h ≤ k) where
 
   some_writes : (i b : ℕ) → b < 2 ^ h → bank_start k h b ≤ i → i < bank_start k h b + bank_size k h
       → (bs cells : List ℕ) → 2 ^ k ≤ length cells → Memᴰ b bs → get_or (banks_filled field k h bs cells) i 0 ≡ field i
+  some_writes i b number from to [] cells enough mem = elim mem [ ]
   some_writes i b number from to (c ∷ bs) cells enough (Memᴰ.head e) =
       all_keep_field i bs (bank_filled field k h c cells) (still_enough cells enough c)
       (subst (λ (x : ℕ). get_or (bank_filled field k h x cells) i 0 ≡ field i) e (writes_field cells enough b i number from to))
