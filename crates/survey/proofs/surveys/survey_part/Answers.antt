@@ -1,0 +1,23 @@
+-- `survey::survey_part` meets its contract: the cells up to `end` are lent, or they are too few. Assumes nothing.
+use mathlib.Core.List.{[], ◌∷◌}
+use mathlib.Core.Path.{◌∙◌}
+use native.Mathlib.Omega.{arith}
+use borrow.Author.Tests.{lt-ltb, le-ltb}
+use lib.ListN.{length, length-take, length-drop}
+use Rattle.units.specs.Refusals.{few_cells}
+use Rattle.units.proofs.Laws.Tests.{refused_after}
+use Rattle.survey.specs.Survey.{refused}
+use Rattle.survey.proofs.Laws.Scan.{after_passed}
+use Rattle.survey.proofs.surveys.survey_part.Goals as goal
+
+pub returns-then-cells-end : goal.returns-then-cells-end
+returns-then-cells-end c =
+    refused_after refused _ [] (few_cells (length c.args.cells.now) c.args.end) _ tt (lt-ltb _ _ c.if-cells-end.true)
+
+pub survey_fields-requires : goal.survey_fields-requires
+survey_fields-requires c = (c.requires.0, simp (length-take, length-drop) (omega (arith, c.requires.1)))
+
+pub returns : goal.returns
+returns c =
+    c.survey_fields.ensures
+    ∙ after_passed (few_cells (length c.args.cells.now) c.args.end ∷ []) [] c.args.shape c.args.first _ (le-ltb _ _ c.if-cells-end.false, tt)
