@@ -1,25 +1,25 @@
 // Text and numbers on standard output.
-use libc::STDOUT_FILENO;
+use std::io;
 
-pub fn text(s: &[u8]) {
-    io::write_all(STDOUT_FILENO, s);
+pub fn text(rt: &impl Print, s: &[u8]) -> io::Result<()> {
+    rt.write_all(s)
 }
 
-pub fn number(n: u64) {
-    io::print_decimal(STDOUT_FILENO, n);
+pub fn number(rt: &impl Print, n: u64) -> io::Result<()> {
+    rt.print(n)
 }
 
 // A number, after what stands before it.
-pub fn labelled(label: &[u8], n: u64) {
-    text(label);
-    number(n);
+pub fn labelled(rt: &impl Print, label: &[u8], n: u64) -> io::Result<()> {
+    text(rt, label)?;
+    number(rt, n)
 }
 
 // A number after a space, as the columns of a line have it.
-pub fn long_column(n: u64) {
-    labelled(b" ", n);
+pub fn long_column(rt: &impl Print, n: u64) -> io::Result<()> {
+    labelled(rt, b" ", n)
 }
 
-pub fn column(n: u32) {
-    long_column(n as u64);
+pub fn column(rt: &impl Print, n: u32) -> io::Result<()> {
+    long_column(rt, n as u64)
 }
