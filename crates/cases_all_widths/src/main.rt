@@ -12,6 +12,7 @@ use recip::{
     ErrorAnswer, Interval, Kind, Outcome, Shape, SurveyAnswer, build, entry_error, show_bank,
     survey_table,
 };
+use std::io;
 
 // The worst error of one entry, and for a field that m bits do not hold a number above all errors.
 fn worst_of(shape: Shape, n: u32, f: u16) -> u64 {
@@ -64,47 +65,50 @@ fn ties(shape: Shape, fields: &[u16]) -> u32 {
 }
 
 // " worst n side", or " refused", which no line of `stdout` has.
-fn surveyed(a: SurveyAnswer) {
+fn surveyed(rt: &impl Print, a: SurveyAnswer) -> io::Result<()> {
     match a {
         SurveyAnswer::Surveyed(f) => {
-            long_column(f.worst.0);
-            column(f.n.0);
+            long_column(rt, f.worst.0)?;
+            column(rt, f.n.0)?;
             let s = f.side;
-            column(s.number());
+            column(rt, s.number())?;
         }
-        _ => text(b" refused"),
+        _ => text(rt, b" refused")?,
     }
+    Ok(())
 }
 
 // The table itself is its one bank at h = 0.
-fn report(shape: Shape, cells: &[u16]) {
+fn report(rt: &impl Print, shape: Shape, cells: &[u16]) -> io::Result<()> {
     let table = show_bank(shape.k, 0, 0, cells);
-    long_column(digest_of(table));
-    surveyed(survey_table(shape, table));
-    column(ties(shape, table));
+    long_column(rt, digest_of(table))?;
+    surveyed(rt, survey_table(shape, table))?;
+    column(rt, ties(shape, table))
 }
 
-fn line(shape: Shape) {
+fn line(rt: &impl Print, shape: Shape) -> io::Result<()> {
     let mut cells = zeroed();
     let built: Outcome = build(shape, &mut cells);
-    shape_named(shape);
-    report(shape, &cells);
-    text(b"\n");
+    shape_named(rt, shape)?;
+    report(rt, shape, &cells)?;
+    text(rt, b"\n")
 }
 
-fn lines_of(k: u32, kind: Kind) {
+fn lines_of(rt: &impl Print, k: u32, kind: Kind) -> io::Result<()> {
     for m in 1..16 {
-        line(Shape::of(k, m, kind));
+        line(rt, Shape::of(k, m, kind))?;
     }
+    Ok(())
 }
 
-fn tables(kind: Kind) {
+fn tables(rt: &impl Print, kind: Kind) -> io::Result<()> {
     for k in 1..16 {
-        lines_of(k, kind);
+        lines_of(rt, k, kind)?;
     }
+    Ok(())
 }
 
-fn main() {
-    tables(Kind::Plain);
-    tables(Kind::WithOne);
+fn main(rt: HostRuntime) -> io::Result<()> {
+    tables(&rt, Kind::Plain)?;
+    tables(&rt, Kind::WithOne)
 }

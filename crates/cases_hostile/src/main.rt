@@ -13,6 +13,7 @@ use recip::{
     TallyAnswer, build, build_bank, check_table, entry_error, look_up, show_bank, show_bank_number,
     survey_bank, survey_bank_of, survey_table,
 };
+use std::io;
 
 // What is drawn for a call.
 #[derive(Drop)]
@@ -326,18 +327,19 @@ fn thousand(state: &mut u64, digest: &mut u64, cells: &mut [u16]) {
     }
 }
 
-fn line(calls: u64, digest: u64) {
-    number(calls);
-    long_column(digest);
-    text(b"\n");
+fn line(rt: &impl Print, calls: u64, digest: u64) -> io::Result<()> {
+    number(rt, calls)?;
+    long_column(rt, digest)?;
+    text(rt, b"\n")
 }
 
-fn main() {
+fn main(rt: HostRuntime) -> io::Result<()> {
     let mut state: u64 = 1;
     let mut digest: u64 = 0;
     let mut cells = [0u16; 64];
     for c in 1..41 {
         thousand(&mut state, &mut digest, &mut cells);
-        line(c * 1000, digest);
+        line(&rt, c * 1000, digest)?;
     }
+    Ok(())
 }

@@ -7,6 +7,7 @@ ghost use Rattle.std.specs.Prelude.{◌<◌};
 
 use programs::{column, long_column, marked, shape_named, stir, text};
 use recip::{Kind, LookupAnswer, Outcome, Shape, build, look_up, show_bank};
+use std::io;
 
 const DIVISORS: [u32; 11] = [
     0, 1, 2, 3, 32767, 32768, 40960, 65535, 65536, 2147483648, 4294967295,
@@ -61,75 +62,76 @@ fn every_divisor(shape: Shape, table: &[u16]) -> u64 {
 }
 
 // "k m digest", or "k m one digest"
-fn all(k: u32, m: u32, kind: Kind) {
+fn all(rt: &impl Print, k: u32, m: u32, kind: Kind) -> io::Result<()> {
     let shape = Shape::of(k, m, kind);
-    shape_named(shape);
+    shape_named(rt, shape)?;
     let mut cells = marked();
     let built: Outcome = build(shape, &mut cells);
-    long_column(every_divisor(shape, show_bank(k, 0, 0, &cells)));
-    text(b"\n");
+    long_column(rt, every_divisor(shape, show_bank(k, 0, 0, &cells)))?;
+    text(rt, b"\n")
 }
 
-fn answer(a: LookupAnswer) {
+fn answer(rt: &impl Print, a: LookupAnswer) -> io::Result<()> {
     let found = numbers_of(a);
-    column(found.number);
-    column(found.s);
-    column(found.n);
-    column(found.j);
+    column(rt, found.number)?;
+    column(rt, found.s)?;
+    column(rt, found.n)?;
+    column(rt, found.j)
 }
 
-fn look_in(shape: Shape, x: u32, lent: usize, cells: &[u16]) {
+fn look_in(rt: &impl Print, shape: Shape, x: u32, lent: usize, cells: &[u16]) -> io::Result<()> {
     if cells.len() < lent {
-        return;
+        return Ok(());
     }
-    answer(look_up(shape, x, &cells[0..lent]));
+    answer(rt, look_up(shape, x, &cells[0..lent]))
 }
 
 // "k m X cells: number s n j, number s n j", or "k m one X ..", first in cells of 43981 and then in a
 // built table
-fn look(k: u32, m: u32, kind: Kind, x: u32, lent: usize) {
+fn look(rt: &impl Print, k: u32, m: u32, kind: Kind, x: u32, lent: usize) -> io::Result<()> {
     let shape = Shape::of(k, m, kind);
-    shape_named(shape);
-    column(x);
-    long_column(lent as u64);
-    text(b":");
+    shape_named(rt, shape)?;
+    column(rt, x)?;
+    long_column(rt, lent as u64)?;
+    text(rt, b":")?;
     let mut cells = marked();
-    look_in(shape, x, lent, &cells);
-    text(b",");
+    look_in(rt, shape, x, lent, &cells)?;
+    text(rt, b",")?;
     let built: Outcome = build(shape, &mut cells);
-    look_in(shape, x, lent, &cells);
-    text(b"\n");
+    look_in(rt, shape, x, lent, &cells)?;
+    text(rt, b"\n")
 }
 
-fn divisor_case(c: usize)
+fn divisor_case(rt: &impl Print, c: usize) -> io::Result<()>
     requires { c < 11 }
 {
     let x = DIVISORS[c];
-    look(5, 5, Kind::Plain, x, 31);
-    look(5, 5, Kind::Plain, x, 32);
-    look(1, 15, Kind::Plain, x, 2);
-    look(15, 1, Kind::Plain, x, 32768);
-    look(0, 5, Kind::Plain, x, 32);
-    look(5, 16, Kind::Plain, x, 32);
-    look(12, 3, Kind::WithOne, x, 4096);
-    look(5, 3, Kind::WithOne, x, 32);
+    look(rt, 5, 5, Kind::Plain, x, 31)?;
+    look(rt, 5, 5, Kind::Plain, x, 32)?;
+    look(rt, 1, 15, Kind::Plain, x, 2)?;
+    look(rt, 15, 1, Kind::Plain, x, 32768)?;
+    look(rt, 0, 5, Kind::Plain, x, 32)?;
+    look(rt, 5, 16, Kind::Plain, x, 32)?;
+    look(rt, 12, 3, Kind::WithOne, x, 4096)?;
+    look(rt, 5, 3, Kind::WithOne, x, 32)
 }
 
-fn divisors() {
+fn divisors(rt: &impl Print) -> io::Result<()> {
     for c in 0..11 {
-        divisor_case(c);
+        divisor_case(rt, c)?;
     }
+    Ok(())
 }
 
-fn all_of(kind: Kind) {
-    all(1, 1, kind);
-    all(5, 5, kind);
-    all(15, 15, kind);
-    all(12, 3, kind);
+fn all_of(rt: &impl Print, kind: Kind) -> io::Result<()> {
+    all(rt, 1, 1, kind)?;
+    all(rt, 5, 5, kind)?;
+    all(rt, 15, 15, kind)?;
+    all(rt, 12, 3, kind)
 }
 
-fn main() {
-    all_of(Kind::Plain);
-    all_of(Kind::WithOne);
-    divisors();
+fn main(rt: HostRuntime) -> io::Result<()> {
+    all_of(&rt, Kind::Plain)?;
+    all_of(&rt, Kind::WithOne)?;
+    divisors(&rt)
 }

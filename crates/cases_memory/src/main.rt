@@ -14,6 +14,7 @@ use programs::{
     stir_bytes, stir_cells, text, width, zeroed,
 };
 use recip::{Kind, Outcome, ReadAnswer, Shape, WriteAnswer, build, read_memory, write_memory};
+use std::io;
 
 // The documents' numbers of an answer: the place is the writer's length or the reader's offset.
 #[derive(Drop)]
@@ -79,10 +80,10 @@ fn filled() -> [u8; 163841]
 }
 
 // " number place n"
-fn columns(a: Numbers) {
-    column(a.number);
-    long_column(a.place as u64);
-    column(a.n);
+fn columns(rt: &impl Print, a: Numbers) -> io::Result<()> {
+    column(rt, a.number)?;
+    long_column(rt, a.place as u64)?;
+    column(rt, a.n)
 }
 
 // The cells of the largest table, each with a number that is no field of any.
@@ -93,33 +94,33 @@ fn unread() -> [u16; 32768]
 }
 
 // " number offset n digest" of a reading.
-fn read_into(shape: Shape, bytes: &[u8], cells: &mut [u16]) {
-    columns(numbers_of_read(read_memory(shape, bytes, cells)));
-    long_column(digest_of(cells));
+fn read_into(rt: &impl Print, shape: Shape, bytes: &[u8], cells: &mut [u16]) -> io::Result<()> {
+    columns(rt, numbers_of_read(read_memory(shape, bytes, cells)))?;
+    long_column(rt, digest_of(cells))
 }
 
 // The same, of the text that was written. (It is never longer than the bytes lent for it, so that
 // nothing is left out here.)
-fn read_back(shape: Shape, bytes: &[u8], length: usize) {
+fn read_back(rt: &impl Print, shape: Shape, bytes: &[u8], length: usize) -> io::Result<()> {
     if bytes.len() < length {
-        return;
+        return Ok(());
     }
     let mut cells = unread();
-    read_into(shape, &bytes[0..length], &mut cells);
+    read_into(rt, shape, &bytes[0..length], &mut cells)
 }
 
 // "k m number length n digest number offset n digest", or "k m one .."
-fn table(k: u32, m: u32, kind: Kind) {
+fn table(rt: &impl Print, k: u32, m: u32, kind: Kind) -> io::Result<()> {
     let shape = Shape::of(k, m, kind);
-    shape_named(shape);
+    shape_named(rt, shape)?;
     let mut cells = zeroed();
     let built: Outcome = build(shape, &mut cells);
     let mut bytes = filled();
     let written = numbers_of_write(write_memory(shape, &cells, &mut bytes));
-    columns(written);
-    long_column(stir_bytes(0, &bytes));
-    read_back(shape, &bytes, written.place);
-    text(b"\n");
+    columns(rt, written)?;
+    long_column(rt, stir_bytes(0, &bytes))?;
+    read_back(rt, shape, &bytes, written.place)?;
+    text(rt, b"\n")
 }
 
 fn small(state: &mut u64, n: u64) -> usize
@@ -524,49 +525,49 @@ fn thousand(
     }
 }
 
-fn line(rounds: u64, digest: u64) {
-    number(rounds);
-    long_column(digest);
-    text(b"\n");
+fn line(rt: &impl Print, rounds: u64, digest: u64) -> io::Result<()> {
+    number(rt, rounds)?;
+    long_column(rt, digest)?;
+    text(rt, b"\n")
 }
 
 // " number:count"
-fn counted(number: u32, counts: &[u64]) {
+fn counted(rt: &impl Print, number: u32, counts: &[u64]) -> io::Result<()> {
     let at = number as usize;
     if counts.len() <= at {
-        return;
+        return Ok(());
     }
-    column(number);
-    labelled(b":", counts[at]);
+    column(rt, number)?;
+    labelled(rt, b":", counts[at])
 }
 
 // The numbers that both calls can give.
-fn counted_first(counts: &[u64]) {
-    counted(0, counts);
-    counted(1, counts);
-    counted(2, counts);
-    counted(3, counts);
-    counted(5, counts);
+fn counted_first(rt: &impl Print, counts: &[u64]) -> io::Result<()> {
+    counted(rt, 0, counts)?;
+    counted(rt, 1, counts)?;
+    counted(rt, 2, counts)?;
+    counted(rt, 3, counts)?;
+    counted(rt, 5, counts)
 }
 
-fn counted_reads(counts: &[u64]) {
-    text(b"read");
-    counted_first(counts);
-    counted(8, counts);
-    counted(9, counts);
-    counted(10, counts);
-    counted(11, counts);
-    text(b"\n");
+fn counted_reads(rt: &impl Print, counts: &[u64]) -> io::Result<()> {
+    text(rt, b"read")?;
+    counted_first(rt, counts)?;
+    counted(rt, 8, counts)?;
+    counted(rt, 9, counts)?;
+    counted(rt, 10, counts)?;
+    counted(rt, 11, counts)?;
+    text(rt, b"\n")
 }
 
-fn counted_writes(counts: &[u64]) {
-    text(b"written");
-    counted_first(counts);
-    counted(17, counts);
-    text(b"\n");
+fn counted_writes(rt: &impl Print, counts: &[u64]) -> io::Result<()> {
+    text(rt, b"written")?;
+    counted_first(rt, counts)?;
+    counted(rt, 17, counts)?;
+    text(rt, b"\n")
 }
 
-fn drive() {
+fn drive(rt: &impl Print) -> io::Result<()> {
     let mut state: u64 = 1;
     let mut digest: u64 = 0;
     let mut reads = [0u64; 18];
@@ -582,23 +583,23 @@ fn drive() {
             &mut cells,
             &mut bytes,
         );
-        line(c * 1000, digest);
+        line(rt, c * 1000, digest)?;
     }
-    counted_reads(&reads);
-    counted_writes(&writes);
+    counted_reads(rt, &reads)?;
+    counted_writes(rt, &writes)
 }
 
-fn tables(kind: Kind) {
-    table(1, 1, kind);
-    table(5, 6, kind);
-    table(10, 4, kind);
-    table(12, 13, kind);
-    table(15, 15, kind);
-    table(12, 3, kind);
+fn tables(rt: &impl Print, kind: Kind) -> io::Result<()> {
+    table(rt, 1, 1, kind)?;
+    table(rt, 5, 6, kind)?;
+    table(rt, 10, 4, kind)?;
+    table(rt, 12, 13, kind)?;
+    table(rt, 15, 15, kind)?;
+    table(rt, 12, 3, kind)
 }
 
-fn main() {
-    tables(Kind::Plain);
-    tables(Kind::WithOne);
-    drive();
+fn main(rt: HostRuntime) -> io::Result<()> {
+    tables(&rt, Kind::Plain)?;
+    tables(&rt, Kind::WithOne)?;
+    drive(&rt)
 }

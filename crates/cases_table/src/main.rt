@@ -7,6 +7,7 @@
 ghost use Rattle.std.specs.Prelude.{◌<◌};
 
 use programs::{column, digest_of, long_column, marked, text};
+use std::io;
 use table::{build, build_bank, show_bank, show_bank_number};
 use units::{Kind, Outcome, Shape};
 
@@ -33,96 +34,105 @@ fn changed(cells: &[u16]) -> usize {
     count
 }
 
-fn end(number_given: u32, cells: &[u16]) {
-    column(number_given);
-    long_column(changed(cells) as u64);
-    long_column(digest_of(cells));
-    text(b"\n");
+fn end(rt: &impl Print, number_given: u32, cells: &[u16]) -> io::Result<()> {
+    column(rt, number_given)?;
+    long_column(rt, changed(cells) as u64)?;
+    long_column(rt, digest_of(cells))?;
+    text(rt, b"\n")
 }
 
 // "build k m cells: number changed digest"
-fn lend_to_build(k: u32, m: u32, lent: usize, cells: &mut [u16]) {
+fn lend_to_build(
+    rt: &impl Print,
+    k: u32,
+    m: u32,
+    lent: usize,
+    cells: &mut [u16],
+) -> io::Result<()> {
     if cells.len() < lent {
-        return;
+        return Ok(());
     }
-    text(b"build");
-    column(k);
-    column(m);
-    long_column(lent as u64);
-    text(b":");
+    text(rt, b"build")?;
+    column(rt, k)?;
+    column(rt, m)?;
+    long_column(rt, lent as u64)?;
+    text(rt, b":")?;
     let answer = build(Shape::of(k, m, Kind::Plain), &mut cells[0..lent]);
-    end(answer.number(), cells);
+    end(rt, answer.number(), cells)
 }
 
-fn build_case(c: usize)
+fn build_case(rt: &impl Print, c: usize) -> io::Result<()>
     requires { c < 48 }
 {
     let mut cells = marked();
-    lend_to_build(WIDTHS[c / 12], WIDTHS[c % 4], LENT[c / 4], &mut cells);
+    lend_to_build(rt, WIDTHS[c / 12], WIDTHS[c % 4], LENT[c / 4], &mut cells)
 }
 
 // "bank h b cells: number changed digest", for k = 5 and m = 5
-fn lend_to_bank(h: u32, b: u32, lent: usize, cells: &mut [u16]) {
+fn lend_to_bank(rt: &impl Print, h: u32, b: u32, lent: usize, cells: &mut [u16]) -> io::Result<()> {
     if cells.len() < lent {
-        return;
+        return Ok(());
     }
-    text(b"bank");
-    column(h);
-    column(b);
-    long_column(lent as u64);
-    text(b":");
+    text(rt, b"bank")?;
+    column(rt, h)?;
+    column(rt, b)?;
+    long_column(rt, lent as u64)?;
+    text(rt, b":")?;
     let answer = build_bank(Shape::of(5, 5, Kind::Plain), h, b, &mut cells[0..lent]);
-    end(answer.number(), cells);
+    end(rt, answer.number(), cells)
 }
 
-fn bank_case(c: usize)
+fn bank_case(rt: &impl Print, c: usize) -> io::Result<()>
     requires { c < 12 }
 {
     let mut cells = marked();
-    lend_to_bank(HEIGHTS[c / 2], BANKS[c / 2], 31 + c % 2, &mut cells);
+    lend_to_bank(rt, HEIGHTS[c / 2], BANKS[c / 2], 31 + c % 2, &mut cells)
 }
 
 // "show h b: number cells digest", for a built table of k = 5 and m = 5
-fn show(h: u32, b: u32, cells: &mut [u16]) {
-    text(b"show");
-    column(h);
-    column(b);
-    text(b":");
+fn show(rt: &impl Print, h: u32, b: u32, cells: &mut [u16]) -> io::Result<()> {
+    text(rt, b"show")?;
+    column(rt, h)?;
+    column(rt, b)?;
+    text(rt, b":")?;
     let built: Outcome = build(Shape::of(5, 5, Kind::Plain), cells);
-    column(show_bank_number(5, h, b, cells).number());
+    column(rt, show_bank_number(5, h, b, cells).number())?;
     let bank = show_bank(5, h, b, cells);
-    long_column(bank.len() as u64);
-    long_column(digest_of(bank));
-    text(b"\n");
+    long_column(rt, bank.len() as u64)?;
+    long_column(rt, digest_of(bank))?;
+    text(rt, b"\n")
 }
 
-fn show_case(c: usize)
+fn show_case(rt: &impl Print, c: usize) -> io::Result<()>
     requires { c < 6 }
 {
     let mut cells = marked();
-    show(HEIGHTS[c], BANKS[c], &mut cells);
+    show(rt, HEIGHTS[c], BANKS[c], &mut cells)
 }
 
-fn builds() {
+fn builds(rt: &impl Print) -> io::Result<()> {
     for c in 0..48 {
-        build_case(c);
+        build_case(rt, c)?;
     }
+    Ok(())
 }
 
-fn banks() {
+fn banks(rt: &impl Print) -> io::Result<()> {
     for c in 0..12 {
-        bank_case(c);
+        bank_case(rt, c)?;
     }
+    Ok(())
 }
 
-fn shows() {
+fn shows(rt: &impl Print) -> io::Result<()> {
     for c in 0..6 {
-        show_case(c);
+        show_case(rt, c)?;
     }
+    Ok(())
 }
 
-fn main() {
-    builds();
-    banks();
-    shows();
+fn main(rt: HostRuntime) -> io::Result<()> {
+    builds(&rt)?;
+    banks(&rt)?;
+    shows(&rt)
 }

@@ -11,6 +11,7 @@ use recip::{
     CheckAnswer, Interval, Kind, LookupAnswer, Outcome, Refusal, Shape, Side, SurveyAnswer, Worst,
     build, check_table, look_up, survey_table,
 };
+use std::io;
 
 // A family of cards: k bits of the divisor in, m bits of the reciprocal out, and no wire for 1.0. Its
 // errors are counted in parts of a whole, 2^(k+m+1).
@@ -39,76 +40,77 @@ const WIDE: Card = Card {
 };
 
 // A call that cannot do what was asked says why by a number of the documents, and writes no cell.
-fn refused(r: Refusal) {
-    labelled(b"refused, number ", r.number() as u64);
+fn refused(rt: &impl Print, r: Refusal) -> io::Result<()> {
+    labelled(rt, b"refused, number ", r.number() as u64)
 }
 
 // Number 5, a field of more than m bits, names its interval besides.
-fn too_wide(n: Interval) {
-    labelled(b"refused, number 5, interval ", n.0 as u64);
+fn too_wide(rt: &impl Print, n: Interval) -> io::Result<()> {
+    labelled(rt, b"refused, number 5, interval ", n.0 as u64)
 }
 
 // 1. The best table of a card's widths, in a buffer that the scheduler lends.
-fn build_for(name: &[u8], card: Card, cells: &mut [u16]) {
-    text(name);
+fn build_for(rt: &impl Print, name: &[u8], card: Card, cells: &mut [u16]) -> io::Result<()> {
+    text(rt, name)?;
     match build(card.shape, cells) {
-        Outcome::Done => text(b"the best table is built"),
-        Outcome::Refused(r) => refused(r),
+        Outcome::Done => text(rt, b"the best table is built")?,
+        Outcome::Refused(r) => refused(rt, r)?,
     }
-    text(b"\n");
+    text(rt, b"\n")
 }
 
 // 2. "The farm may load only tables that pass": of any other, the entry at fault or the refusal.
-fn check_image(name: &[u8], card: Card, image: &[u16]) {
-    text(name);
+fn check_image(rt: &impl Print, name: &[u8], card: Card, image: &[u16]) -> io::Result<()> {
+    text(rt, name)?;
     match check_table(card.shape, image) {
-        CheckAnswer::Yes => text(b"passes"),
+        CheckAnswer::Yes => text(rt, b"passes")?,
         CheckAnswer::NotBest { n, worst, least } => {
-            labelled(b"interval ", n.0 as u64);
-            labelled(b" is at fault, worst ", worst.0);
-            labelled(b" parts, best possible ", least.0);
+            labelled(rt, b"interval ", n.0 as u64)?;
+            labelled(rt, b" is at fault, worst ", worst.0)?;
+            labelled(rt, b" parts, best possible ", least.0)?;
         }
-        CheckAnswer::TooWide(n) => too_wide(n),
-        CheckAnswer::Refused(r) => refused(r),
+        CheckAnswer::TooWide(n) => too_wide(rt, n)?,
+        CheckAnswer::Refused(r) => refused(rt, r)?,
     }
-    text(b"\n");
+    text(rt, b"\n")
 }
 
 // 3. "Table images reach us from tools we didn't write": a good one for the narrow cards, and three
 // bad ones. Each `let mut` makes a copy of the good one.
-fn check_images(vendor: [u16; 32]) {
-    check_image(b"vendor image: ", NARROW, &vendor);
+fn check_images(rt: &impl Print, vendor: [u16; 32]) -> io::Result<()> {
+    check_image(rt, b"vendor image: ", NARROW, &vendor)?;
     let mut damaged = vendor;
     damaged[8] = 20;
-    check_image(b"damaged image: ", NARROW, &damaged);
+    check_image(rt, b"damaged image: ", NARROW, &damaged)?;
     let mut over_wide = vendor;
     over_wide[20] = 32;
-    check_image(b"over-wide image: ", NARROW, &over_wide);
-    check_image(b"short image: ", NARROW, &vendor[0..31]);
+    check_image(rt, b"over-wide image: ", NARROW, &over_wide)?;
+    check_image(rt, b"short image: ", NARROW, &vendor[0..31])
 }
 
-fn side(s: Side) {
+fn side(rt: &impl Print, s: Side) -> io::Result<()> {
     match s {
-        Side::Left => text(b", left"),
-        Side::Right => text(b", right"),
+        Side::Left => text(rt, b", left")?,
+        Side::Right => text(rt, b", right")?,
     }
+    Ok(())
 }
 
 // 4. The worst error of a card's table as an exact fraction, where it is, and on which side.
-fn surveyed(name: &[u8], card: Card, answer: SurveyAnswer) {
-    text(name);
+fn surveyed(rt: &impl Print, name: &[u8], card: Card, answer: SurveyAnswer) -> io::Result<()> {
+    text(rt, name)?;
     match answer {
         SurveyAnswer::Surveyed(f) => {
-            labelled(b"worst ", f.worst.0);
-            labelled(b"/", card.whole);
-            labelled(b" at interval ", f.n.0 as u64);
+            labelled(rt, b"worst ", f.worst.0)?;
+            labelled(rt, b"/", card.whole)?;
+            labelled(rt, b" at interval ", f.n.0 as u64)?;
             let s = f.side;
-            side(s);
+            side(rt, s)?;
         }
-        SurveyAnswer::TooWide(n) => too_wide(n),
-        SurveyAnswer::Refused(r) => refused(r),
+        SurveyAnswer::TooWide(n) => too_wide(rt, n)?,
+        SurveyAnswer::Refused(r) => refused(rt, r)?,
     }
-    text(b"\n");
+    text(rt, b"\n")
 }
 
 // Whether the wide cards' worst error is no larger than the narrow cards', as exact fractions: by
@@ -131,50 +133,57 @@ fn nothing_loosens(wide: Worst, narrow: Worst) -> bool {
 // "A retry goes to a card at least as wide, and I promise the colourist that nothing loosens." Of best
 // tables the library proves it for every interval; here it shows in the worst error of each table.
 // Where a survey was refused, nothing is promised.
-fn pick_retry(narrow: SurveyAnswer, wide: SurveyAnswer) {
+fn pick_retry(rt: &impl Print, narrow: SurveyAnswer, wide: SurveyAnswer) -> io::Result<()> {
     let SurveyAnswer::Surveyed(first) = narrow else {
-        return;
+        return Ok(());
     };
     let SurveyAnswer::Surveyed(second) = wide else {
-        return;
+        return Ok(());
     };
     if nothing_loosens(second.worst, first.worst) {
-        text(b"retry on a wide card: nothing loosens\n");
+        text(rt, b"retry on a wide card: nothing loosens\n")?;
     } else {
-        text(b"retry on a narrow card\n");
+        text(rt, b"retry on a narrow card\n")?;
     }
+    Ok(())
 }
 
 // 5. What a card starts a division from. A divisor goes in as it comes: it is shifted up by s places,
 // n is the interval that it is then in, and j the entry.
-fn look_up_on(name: &[u8], card: Card, divisor: u32, cells: &[u16]) {
-    labelled(b"divisor ", divisor as u64);
-    text(name);
+fn look_up_on(
+    rt: &impl Print,
+    name: &[u8],
+    card: Card,
+    divisor: u32,
+    cells: &[u16],
+) -> io::Result<()> {
+    labelled(rt, b"divisor ", divisor as u64)?;
+    text(rt, name)?;
     match look_up(card.shape, divisor, cells) {
         LookupAnswer::Found { s, n, j } => {
-            labelled(b"s = ", s.0 as u64);
-            labelled(b", n = ", n.0 as u64);
-            labelled(b", j = ", j.0 as u64);
+            labelled(rt, b"s = ", s.0 as u64)?;
+            labelled(rt, b", n = ", n.0 as u64)?;
+            labelled(rt, b", j = ", j.0 as u64)?;
         }
-        LookupAnswer::TooWide(n) => too_wide(n),
-        LookupAnswer::Refused(r) => refused(r),
+        LookupAnswer::TooWide(n) => too_wide(rt, n)?,
+        LookupAnswer::Refused(r) => refused(rt, r)?,
     }
-    text(b"\n");
+    text(rt, b"\n")
 }
 
-fn main() {
+fn main(rt: HostRuntime) -> io::Result<()> {
     let mut narrow = [0u16; 32];
     let mut wide = [0u16; 64];
-    build_for(b"narrow cards: ", NARROW, &mut narrow);
-    build_for(b"wide cards: ", WIDE, &mut wide);
-    check_images(narrow);
+    build_for(&rt, b"narrow cards: ", NARROW, &mut narrow)?;
+    build_for(&rt, b"wide cards: ", WIDE, &mut wide)?;
+    check_images(&rt, narrow)?;
     let of_narrow = survey_table(NARROW.shape, &narrow);
     let of_wide = survey_table(WIDE.shape, &wide);
-    surveyed(b"narrow cards: ", NARROW, of_narrow);
-    surveyed(b"wide cards: ", WIDE, of_wide);
-    pick_retry(of_narrow, of_wide);
-    look_up_on(b" on a narrow card: ", NARROW, 40960, &narrow);
-    look_up_on(b" on a wide card: ", WIDE, 40960, &wide);
-    look_up_on(b" on a wide card: ", WIDE, 5, &wide);
-    look_up_on(b" on a wide card: ", WIDE, 0, &wide);
+    surveyed(&rt, b"narrow cards: ", NARROW, of_narrow)?;
+    surveyed(&rt, b"wide cards: ", WIDE, of_wide)?;
+    pick_retry(&rt, of_narrow, of_wide)?;
+    look_up_on(&rt, b" on a narrow card: ", NARROW, 40960, &narrow)?;
+    look_up_on(&rt, b" on a wide card: ", WIDE, 40960, &wide)?;
+    look_up_on(&rt, b" on a wide card: ", WIDE, 5, &wide)?;
+    look_up_on(&rt, b" on a wide card: ", WIDE, 0, &wide)
 }
