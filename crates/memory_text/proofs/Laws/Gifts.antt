@@ -1,6 +1,6 @@
 -- A text that is read gives every cell exactly once, and one that lacks a cell gives those before the first such. Assumes nothing.
 use Prim.Native.Nat.{ℕ, suc, ◌+◌, ◌^◌, ◌<◌}
-use mathlib.Core.Bool.{Bool, true, false, not, cond, false≢true}
+use mathlib.Core.Bool.{Bool, true, false, cond, false≢true}
 use mathlib.Core.List.{List, [], ◌∷◌}
 use mathlib.Core.Path.{◌≡◌, refl, sym, ap, ◌∙◌}
 use native.Mathlib.Omega.{arith}

@@ -9,7 +9,7 @@ use lib.Dec.{leb, eqb}
 use lib.ListN.{length, drop, length-append}
 use Rattle.units.proofs.Laws.Tests.{or_false}
 use Rattle.table.proofs.Laws.First.{none_of}
-use Rattle.memory_tokens.specs.Tokens.{newline, star, slash, is_white, opens, ends, word_of, Token, token, unfinished, outside, comment, closes, tokens_in, tokens}
+use Rattle.memory_tokens.specs.Tokens.{newline, star, slash, is_white, opens, ends, word_of, Token, token, unfinished, outside, comment, closes, tokens_in}
 use Rattle.memory_text.specs.Layout.{has_newline, has_end, Gap, white, line, block, Laid, nothing, last_line, cut, gap, word}
 use Rattle.memory_tokens.proofs.Laws.Places.{stays_in_token, begins_token, leaves_token}
 
