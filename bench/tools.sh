@@ -33,9 +33,9 @@ need_emulator() {
 }
 
 # The proved calls, proved and compiled where that is still to be done.
-calls=target/staticlib/libbench_calls.a
+calls=crates/bench_calls/out/libbench_calls.a
 build_calls() {
-    rt staticlib bench_calls >"$room/rt" 2>&1 && return
+    (cd crates/bench_calls && rt lib) >"$room/rt" 2>&1 && return
     cat "$room/rt" >&2
     return 1
 }
