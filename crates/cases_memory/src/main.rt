@@ -17,7 +17,7 @@ use recip::{Kind, Outcome, ReadAnswer, Shape, WriteAnswer, build, read_memory, w
 use std::io;
 
 // The documents' numbers of an answer: the place is the writer's length or the reader's offset.
-#[derive(Drop)]
+#[derive(Clone, Copy)]
 struct Numbers {
     number: u32,
     place: usize,
@@ -25,7 +25,7 @@ struct Numbers {
 }
 
 // What is drawn for a round before its text.
-#[derive(Drop)]
+#[derive(Clone, Copy)]
 struct Inputs {
     shape: Shape,
     lent: usize,
