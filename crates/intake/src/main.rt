@@ -16,10 +16,10 @@ ghost use Rattle.listing_line.specs.Line.{asks, line_read};
 ghost use Rattle.memory_text.specs.Read.{read_report};
 ghost use Rattle.intake.specs.Accepted.{cells_of, Accepted};
 
-use libc::STDIN_FILENO;
 use listing_line::{Reading, read_line};
-use programs::{labelled, long_column, text, zeroed};
+use programs::{labelled, long_column, read_full, text, zeroed};
 use recip::{CheckAnswer, ReadAnswer, Refusal, Shape, check_table, read_memory};
+use std::io;
 
 const LONGEST_TEXT: usize = 1048576;
 
@@ -30,67 +30,67 @@ fn blank() -> [u8; 1048587]
     [0; 1048587]
 }
 
-fn refused(r: Refusal) {
-    labelled(b"refused ", r.number() as u64);
+fn refused(rt: &impl Print, r: Refusal) -> io::Result<()> {
+    labelled(rt, b"refused ", r.number() as u64)
 }
 
 // A refusal that gives a place.
-fn refused_at(number: u64, place: u64) {
-    labelled(b"refused ", number);
-    long_column(place);
+fn refused_at(rt: &impl Print, number: u64, place: u64) -> io::Result<()> {
+    labelled(rt, b"refused ", number)?;
+    long_column(rt, place)
 }
 
 // Below, `line` is lent for the contracts alone: the table is judged as one of the shape that the line
 // names.
 
 // The one place that says so: of a text that was read, and whose every entry is best.
-fn passes(line: &[u8], shape: Shape, memory: &[u8])
+fn passes(rt: &impl Print, line: &[u8], shape: Shape, memory: &[u8]) -> io::Result<()>
     requires { (line_read line.now ≡ asks shape) × (Accepted shape memory.now) }
 {
-    text(b"passes");
+    text(rt, b"passes")
 }
 
 // What was read is never refused here, yet what the call answers is written. The text is lent for the
 // contract alone.
-fn check(line: &[u8], shape: Shape, memory: &[u8], table: &[u16])
+fn check(rt: &impl Print, line: &[u8], shape: Shape, memory: &[u8], table: &[u16]) -> io::Result<()>
     requires line_value { line_read line.now ≡ asks shape }
     requires memory_value { ((read_report shape memory.now 32768).number ≡ 0) × (table.now ≡ cells_of shape memory.now) }
 {
     match check_table(shape, table) {
-        CheckAnswer::Yes => passes(line, shape, memory),
+        CheckAnswer::Yes => passes(rt, line, shape, memory),
         CheckAnswer::NotBest { n, worst, least } => {
-            labelled(b"not best ", n.0 as u64);
-            long_column(worst.0);
-            long_column(least.0);
+            labelled(rt, b"not best ", n.0 as u64)?;
+            long_column(rt, worst.0)?;
+            long_column(rt, least.0)
         }
-        CheckAnswer::TooWide(n) => refused_at(5, n.0 as u64),
-        CheckAnswer::Refused(r) => refused(r),
+        CheckAnswer::TooWide(n) => refused_at(rt, 5, n.0 as u64),
+        CheckAnswer::Refused(r) => refused(rt, r),
     }
 }
 
-fn take(line: &[u8], shape: Shape, memory: &[u8])
+fn take(rt: &impl Print, line: &[u8], shape: Shape, memory: &[u8]) -> io::Result<()>
     requires { line_read line.now ≡ asks shape }
 {
     let mut cells = zeroed();
     let table: &mut [u16] = &mut cells;
     match read_memory(shape, memory, table) {
-        ReadAnswer::Done => check(line, shape, memory, table),
-        ReadAnswer::BadToken(at) => refused_at(8, at.0 as u64),
-        ReadAnswer::PastTable(at) => refused_at(9, at.0 as u64),
-        ReadAnswer::TooWide(at) => refused_at(5, at.0 as u64),
-        ReadAnswer::GivenTwice(at) => refused_at(10, at.0 as u64),
-        ReadAnswer::Missing(n) => refused_at(11, n.0 as u64),
-        ReadAnswer::Refused(r) => refused(r),
+        ReadAnswer::Done => check(rt, line, shape, memory, table),
+        ReadAnswer::BadToken(at) => refused_at(rt, 8, at.0 as u64),
+        ReadAnswer::PastTable(at) => refused_at(rt, 9, at.0 as u64),
+        ReadAnswer::TooWide(at) => refused_at(rt, 5, at.0 as u64),
+        ReadAnswer::GivenTwice(at) => refused_at(rt, 10, at.0 as u64),
+        ReadAnswer::Missing(n) => refused_at(rt, 11, n.0 as u64),
+        ReadAnswer::Refused(r) => refused(rt, r),
     }
 }
 
-fn take_if_short(line: &[u8], shape: Shape, memory: &[u8])
+fn take_if_short(rt: &impl Print, line: &[u8], shape: Shape, memory: &[u8]) -> io::Result<()>
     requires { line_read line.now ≡ asks shape }
 {
     if LONGEST_TEXT < memory.len() {
-        text(b"too long");
+        text(rt, b"too long")
     } else {
-        take(line, shape, memory);
+        take(rt, line, shape, memory)
     }
 }
 
@@ -111,21 +111,21 @@ fn line_end(input: &[u8]) -> usize {
     0
 }
 
-fn answer(input: &[u8]) {
+fn answer(rt: &impl Print, input: &[u8]) -> io::Result<()> {
     let end = line_end(input);
     if input.len() < end {
-        return;
+        return Ok(());
     }
     let line = &input[0..end];
     match read_line(line) {
-        Reading::Asks(shape) => take_if_short(line, shape, &input[end..]),
-        Reading::Refused(r) => refused(r),
+        Reading::Asks(shape) => take_if_short(rt, line, shape, &input[end..]),
+        Reading::Refused(r) => refused(rt, r),
     }
 }
 
-fn main() {
+fn main(rt: HostRuntime) -> io::Result<()> {
     let mut space = blank();
-    let got = io::read_full(STDIN_FILENO, &mut space);
-    answer(&space[..got]);
-    text(b"\n");
+    let got = read_full(&rt, &mut space);
+    answer(&rt, &space[..got])?;
+    text(&rt, b"\n")
 }

@@ -10,11 +10,11 @@ ghost use Rattle.listing_line.specs.Line.{asks, line_read};
 ghost use Rattle.listing_text.specs.Inner.Pages.{Listed, IsPart};
 ghost use Rattle.listing_text.specs.Listing.{refused_text, table_text, text_for};
 
-use libc::{STDIN_FILENO, STDOUT_FILENO};
 use listing_line::{Reading, read_line};
 use listing_text::{LINE_MOST, fill_page, line_count, put_refused};
-use programs::zeroed;
+use programs::{read_full, zeroed};
 use recip::{Finding, Outcome, Refusal, Shape, SurveyAnswer, build, survey_table};
+use std::io;
 
 // A page of the text. (15,15), the longest listing, has 1,365,836 bytes and takes eleven of them.
 fn blank() -> [u8; 131072]
@@ -28,22 +28,28 @@ fn blank() -> [u8; 131072]
 
 // Writes the lines of the text from line `from` up to line `next`. The numbers, too, are given for the
 // contract alone.
-fn send(input: &[u8], from: u32, next: u32, bytes: &[u8]) -> bool
+fn send(rt: &impl Print, input: &[u8], from: u32, next: u32, bytes: &[u8]) -> io::Result<()>
     requires { IsPart (text_for input.now) from next bytes.now }
 {
-    io::write_all(STDOUT_FILENO, bytes)
+    rt.write_all(bytes)
 }
 
-fn refuse(input: &[u8], r: Refusal)
+fn refuse(rt: &impl Print, input: &[u8], r: Refusal) -> io::Result<()>
     requires { refused_text (refusal_number r) ≡ text_for input.now }
 {
     let mut page = [0u8; LINE_MOST];
     let end = put_refused(&mut page, 0, r);
-    send(input, 0, 1, &page[..end]);
+    send(rt, input, 0, 1, &page[..end])
 }
 
 // Writes the text a page at a time. It stops where a write fails.
-fn write_text(input: &[u8], shape: Shape, table: &[u16], worst: Finding)
+fn write_text(
+    rt: &impl Print,
+    input: &[u8],
+    shape: Shape,
+    table: &[u16],
+    worst: Finding,
+) -> io::Result<()>
     requires { (table_text shape ≡ text_for input.now) × (Listed shape table.now (figures_of worst)) }
 {
     let mut space = blank();
@@ -53,28 +59,29 @@ fn write_text(input: &[u8], shape: Shape, table: &[u16], worst: Finding)
     while next < lines {
         let filled = fill_page(page, shape, table, worst, next);
         let end = filled.end;
-        if !send(input, next, filled.next, &page[..end]) {
-            return;
-        }
+        send(rt, input, next, filled.next, &page[..end])?;
         next = filled.next;
     }
+    Ok(())
 }
 
 // Called where no input leads, which its callers prove: it requires what never holds. The survey of a
 // table that was built is never refused (`built_survey_done`).
-fn never()
+fn never() -> io::Result<()>
     requires { ⊥ }
-{}
+{
+    Ok(())
+}
 
-fn list(input: &[u8], shape: Shape)
+fn list(rt: &impl Print, input: &[u8], shape: Shape) -> io::Result<()>
     requires { line_read input.now ≡ asks shape }
 {
     let mut cells = zeroed();
     let table: &mut [u16] = &mut cells;
     match build(shape, table) {
-        Outcome::Refused(r) => refuse(input, r),
+        Outcome::Refused(r) => refuse(rt, input, r),
         Outcome::Done => match survey_table(shape, table) {
-            SurveyAnswer::Surveyed(worst) => write_text(input, shape, table, worst),
+            SurveyAnswer::Surveyed(worst) => write_text(rt, input, shape, table, worst),
             SurveyAnswer::TooWide(_) => never(),
             SurveyAnswer::Refused(_) => never(),
         },
@@ -83,12 +90,12 @@ fn list(input: &[u8], shape: Shape)
 
 // The longest line has 10 bytes, so 12 are enough to tell a line from any other input
 // (`twelve_bytes_decide`).
-fn main() {
+fn main(rt: HostRuntime) -> io::Result<()> {
     let mut input = [0u8; 12];
-    let got = io::read_full(STDIN_FILENO, &mut input);
+    let got = read_full(&rt, &mut input);
     let line = &input[..got];
     match read_line(line) {
-        Reading::Asks(shape) => list(line, shape),
-        Reading::Refused(r) => refuse(line, r),
+        Reading::Asks(shape) => list(&rt, line, shape),
+        Reading::Refused(r) => refuse(&rt, line, r),
     }
 }

@@ -7,10 +7,10 @@ ghost use Rattle.listing_line.specs.Line.{asks, line_read};
 ghost use Rattle.memory_text.specs.Write.{memory_text};
 ghost use Rattle.memory.specs.Text.{best_text};
 
-use libc::STDIN_FILENO;
 use listing_line::{Reading, read_line};
-use programs::{labelled, text, zeroed};
+use programs::{labelled, read_full, text, zeroed};
 use recip::{Outcome, Refusal, Shape, WriteAnswer, build, write_memory};
+use std::io;
 
 // Room for the longest text, that of (15,15): 32,768 lines of four digits and a newline.
 fn blank() -> [u8; 163840]
@@ -19,55 +19,55 @@ fn blank() -> [u8; 163840]
     [0; 163840]
 }
 
-fn refuse(r: Refusal) {
-    labelled(b"refused ", r.number() as u64);
-    text(b"\n");
+fn refuse(rt: &impl Print, r: Refusal) -> io::Result<()> {
+    labelled(rt, b"refused ", r.number() as u64)?;
+    text(rt, b"\n")
 }
 
 // Below, `line` is lent for the contracts alone: the table is the one that the line asks for.
 
 // Writes the text of the best table, which is the bytes up to `end`, and no other. One write for all of
 // it. (It is never longer than the bytes that it was written to.)
-fn send(line: &[u8], shape: Shape, bytes: &[u8], end: usize)
+fn send(rt: &impl Print, line: &[u8], shape: Shape, bytes: &[u8], end: usize) -> io::Result<()>
     requires { (line_read line.now ≡ asks shape) × (take end bytes.now ≡ best_text shape) }
 {
     if bytes.len() < end {
-        return;
+        return Ok(());
     }
-    text(&bytes[0..end]);
+    text(rt, &bytes[0..end])
 }
 
 // Number 5 never comes: no field of a built table is too wide.
-fn write(line: &[u8], shape: Shape, table: &[u16])
+fn write(rt: &impl Print, line: &[u8], shape: Shape, table: &[u16]) -> io::Result<()>
     requires { (line_read line.now ≡ asks shape) × (memory_text shape table.now ≡ best_text shape) }
 {
     let mut space = blank();
     let bytes: &mut [u8] = &mut space;
     match write_memory(shape, table, bytes) {
-        WriteAnswer::Written(end) => send(line, shape, bytes, end.0),
-        WriteAnswer::TooWide(_) => text(b"refused 5\n"),
-        WriteAnswer::Refused(r) => refuse(r),
+        WriteAnswer::Written(end) => send(rt, line, shape, bytes, end.0),
+        WriteAnswer::TooWide(_) => text(rt, b"refused 5\n"),
+        WriteAnswer::Refused(r) => refuse(rt, r),
     }
 }
 
-fn write_best(line: &[u8], shape: Shape)
+fn write_best(rt: &impl Print, line: &[u8], shape: Shape) -> io::Result<()>
     requires { line_read line.now ≡ asks shape }
 {
     let mut cells = zeroed();
     let table: &mut [u16] = &mut cells;
     match build(shape, table) {
-        Outcome::Done => write(line, shape, table),
-        Outcome::Refused(r) => refuse(r),
+        Outcome::Done => write(rt, line, shape, table),
+        Outcome::Refused(r) => refuse(rt, r),
     }
 }
 
 // The longest line has 10 bytes, so 12 are enough to tell a line from any other input.
-fn main() {
+fn main(rt: HostRuntime) -> io::Result<()> {
     let mut input = [0u8; 12];
-    let got = io::read_full(STDIN_FILENO, &mut input);
+    let got = read_full(&rt, &mut input);
     let line = &input[..got];
     match read_line(line) {
-        Reading::Asks(shape) => write_best(line, shape),
-        Reading::Refused(r) => refuse(r),
+        Reading::Asks(shape) => write_best(&rt, line, shape),
+        Reading::Refused(r) => refuse(&rt, r),
     }
 }
