@@ -65,14 +65,8 @@ fn write_text(
     Ok(())
 }
 
-// Called where no input leads, which its callers prove: it requires what never holds. The survey of a
-// table that was built is never refused (`built_survey_done`).
-fn never() -> io::Result<()>
-    requires { ⊥ }
-{
-    Ok(())
-}
-
+// No input leads to `unreachable!`, which is proved: the survey of a table that was built is never refused
+// (`built_survey_done`).
 fn list(rt: &impl Print, input: &[u8], shape: Shape) -> io::Result<()>
     requires { line_read input.now ≡ asks shape }
 {
@@ -82,8 +76,8 @@ fn list(rt: &impl Print, input: &[u8], shape: Shape) -> io::Result<()>
         Outcome::Refused(r) => refuse(rt, input, r),
         Outcome::Done => match survey_table(shape, table) {
             SurveyAnswer::Surveyed(worst) => write_text(rt, input, shape, table, worst),
-            SurveyAnswer::TooWide(_) => never(),
-            SurveyAnswer::Refused(_) => never(),
+            SurveyAnswer::TooWide(_) => unreachable!(),
+            SurveyAnswer::Refused(_) => unreachable!(),
         },
     }
 }

@@ -22,8 +22,8 @@ write_text-requires g c =
     (sym (ap reported c.in-Surveyed.is) ∙ c.whole.ensures)
 
 -- where the build is done, the survey gives a finding
-pub never-requires : goal.never-requires
-never-requires g c =
+pub unreachable-requires : goal.unreachable-requires
+unreachable-requires g c =
     build_surveyed c.args.input.now c.zeroed-cells.result c.args.shape c.requires c.zeroed-cells.ensures.size _ c.build.ensures.answer
     c.in-Done.is
     _
@@ -32,8 +32,8 @@ never-requires g c =
     (sym (ap reported c.in-TooWide.is) ∙ c.whole.ensures)
     (omega arith)
 
-pub never-requires-in-Refused-survey_table : goal.never-requires-in-Refused-survey_table
-never-requires-in-Refused-survey_table g c =
+pub unreachable-requires-in-Refused-survey_table : goal.unreachable-requires-in-Refused-survey_table
+unreachable-requires-in-Refused-survey_table g c =
     build_surveyed c.args.input.now c.zeroed-cells.result c.args.shape c.requires c.zeroed-cells.ensures.size _ c.build.ensures.answer
     c.in-Done.is
     _
