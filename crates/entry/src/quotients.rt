@@ -41,6 +41,18 @@ pub fn quotient_before(shape: Shape, n: Interval) -> Quotient
     }
 }
 
+// The quotient as a field, but never above the last field.
+fn capped(shape: Shape, quotient: u32) -> u16
+    requires { GoodWidths shape }
+    ensures { result ≡ min quotient (fields_end shape - 1) }
+{
+    let end = fields_of(shape).end;
+    if quotient < end {
+        return quotient as u16;
+    }
+    (end - 1) as u16
+}
+
 impl Quotient {
     // At the next interval.
     pub fn next(self) -> Quotient
@@ -60,12 +72,16 @@ impl Quotient {
         requires { (GoodWidths shape) × (0 < self.by) }
         ensures { result ≡ min (self.over / self.by) (fields_end shape - 1) }
     {
-        let quotient = self.over / self.by;
-        let end = fields_of(shape).end;
-        if quotient < end {
-            return quotient as u16;
-        }
-        (end - 1) as u16
+        capped(shape, self.over / self.by)
+    }
+
+    // The same, where by is told as one more than 2i: of a divisor that the compiler sees to be odd it does
+    // not test whether it is zero (docs/BENCHMARKS.md).
+    pub fn field_past(self, shape: Shape, even: u32) -> u16
+        requires { (GoodWidths shape) × ((even < 2 ^ 31) × (self.by ≡ even + 1)) }
+        ensures { result ≡ min (self.over / self.by) (fields_end shape - 1) }
+    {
+        capped(shape, self.over / (even + 1))
     }
 
     // Whether f is best: the division, multiplied back. One product and no division. Where nothing is left

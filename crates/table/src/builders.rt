@@ -6,7 +6,7 @@ ghost use Rattle.entry.specs.Rule.{rule_field};
 ghost use Rattle.table.specs.Build.{rows, built, bank_tests, bank_built};
 
 use crate::banks::{bank_at, bank_in_table};
-use entry::quotient_before;
+use entry::{left_end, quotient_before};
 use units::{Interval, Outcome, Shape, widths};
 
 // Writes the rule's field of each interval from first on into a cell of its own. One division a cell.
@@ -14,11 +14,13 @@ fn fill(shape: Shape, first: u32, cells: &mut [u16])
     requires { (GoodPlace shape first) × (first + length cells.old ≤ 2 ^ shape.k) }
     ensures { cells.new ≡ rows (rule_field shape) first (length cells.old) }
 {
+    let mut even = 2 * left_end(shape, Interval(first)).0;
     let mut quotient = quotient_before(shape, Interval(first));
     let mut at: usize = 0;
     while at < cells.len() {
         quotient = quotient.next();
-        cells[at] = quotient.field(shape);
+        cells[at] = quotient.field_past(shape, even);
+        even += 2;
         at += 1;
     }
 }

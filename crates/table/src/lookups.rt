@@ -6,7 +6,7 @@ ghost use Rattle.table.specs.Lookup.{index_of, divisor_tests, reported, lookup_r
 ghost use Rattle.table.specs.Shift.{shift_of};
 
 use entry::fields_of;
-use units::{Entry, Interval, Outcome, Refusal, Shape, Shift, divisor_range, power, whole_table};
+use units::{Entry, Interval, Outcome, Refusal, Shape, Shift, divisor_range, whole_table};
 
 // What "Look up" answers.
 #[derive(Clone, Copy)]
@@ -32,12 +32,12 @@ fn shifted_by(x: u32, s: Shift) -> u32
     x << s.0
 }
 
-// "The index is floor(X/2^(15-k)) - 2^k."
+// "The index is floor(X/2^(15-k)) - 2^k." The 2^k is X's first bit, 2^15, shifted: it is taken off before.
 fn index_of(shape: Shape, x: u32) -> usize
     requires { (GoodWidths shape) × ((2 ^ 15 ≤ x) × (x < 2 ^ 16)) }
     ensures { result ≡ index_of shape x }
 {
-    (x >> (15 - shape.k)) as usize - power(shape.k) as usize
+    ((x - 32768) >> (15 - shape.k)) as usize
 }
 
 fn findable(shape: Shape, x: u32, lent: usize) -> Outcome
@@ -58,11 +58,11 @@ pub fn look_up(shape: Shape, x: u32, table: &[u16]) -> LookupAnswer
     match findable(shape, x, table.len()) {
         Outcome::Refused(r) => LookupAnswer::Refused(r),
         Outcome::Done => {
+            let fields = fields_of(shape);
             let s = shift_of(x);
             let at = index_of(shape, shifted_by(x, s));
             let n = Interval(at as u32);
             let f = table[at];
-            let fields = fields_of(shape);
             if fields.is_wide(f) {
                 return LookupAnswer::TooWide(n);
             }

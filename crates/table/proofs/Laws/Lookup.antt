@@ -2,8 +2,8 @@
 use Prim.Native.Nat.{ℕ, ◌+◌, ◌-◌, ◌*◌, ◌/◌, ◌^◌, ◌≤◌, ◌<◌}
 use mathlib.Core.Bool.{Bool, true, false}
 use mathlib.Core.List.{List, [], ◌∷◌}
-use mathlib.Core.Path.{◌≡◌, refl, ap}
-use native.Mathlib.Nat.{le-div_iff_mul-le, div-lt_iff_lt-mul, div-mul-le_self, lt-div-mul-add, mul-le-mul_right, mul-lt-mul_of_pos_right}
+use mathlib.Core.Path.{◌≡◌, refl, ap, ◌∙◌}
+use native.Mathlib.Nat.{add-mul-div_right, le-div_iff_mul-le, div-lt_iff_lt-mul, div-mul-le_self, lt-div-mul-add, mul-le-mul_right, mul-lt-mul_of_pos_right}
 use native.Mathlib.Omega.{arith}
 use borrow.Author.Tests.{le-ltb}
 use lib.ListN.{length, get_or}
@@ -29,6 +29,16 @@ module _ (s : Shape) (x : ℕ) (narrow : s.k ≤ 15) (from : 2 ^ 15 ≤ x) (to :
 
   pub quotient_to : x / 2 ^ (15 - s.k) < 2 * 2 ^ s.k
   quotient_to = (div-lt_iff_lt-mul (pow_pos (15 - s.k))).1 (omega (arith, power_splits narrow))
+
+  -- that bit taken off before the shift, the rest is the index
+  pub rest_is_index : (x - 2 ^ 15) / 2 ^ (15 - s.k) ≡ index_of s x
+  rest_is_index =
+      let rest : ℕ = x - 2 ^ 15 in
+      let whole : x ≡ rest + 2 ^ s.k * 2 ^ (15 - s.k) = omega (arith, power_splits narrow) in
+      let shifted : x / 2 ^ (15 - s.k) ≡ rest / 2 ^ (15 - s.k) + 2 ^ s.k =
+      ap (λ (y : ℕ). y / 2 ^ (15 - s.k)) whole ∙ add-mul-div_right rest (2 ^ s.k) (pow_pos (15 - s.k))
+      in
+      omega (arith, shifted)
 
   pub index_below : index_of s x < 2 ^ s.k
   index_below = omega (arith, quotient_from, quotient_to)

@@ -7,20 +7,24 @@ use Rattle.table.proofs.Laws.Filling.{filling_starts, filling_size, filling_goes
 use Rattle.table.proofs.builders.fill.Goals as goal
 
 pub loop-at-init : goal.loop-at-init
-loop-at-init c = filling_starts c.quotient_before-quotient.ensures
+loop-at-init c = record { filling = filling_starts c.quotient_before-quotient.ensures; even_is = omega (arith, c.left_end-even.ensures) }
 
 -- the cell that is to be written is that of an interval of the table
 pub next-quotient-requires : goal.next-quotient-requires
 next-quotient-requires c =
     quotient_has_next
-    (record { widths = c.requires.0.widths; interval = omega (arith, c.requires.1, filling_size c.loop-at.invariant) })
-    c.loop-at.invariant.before
+    (record { widths = c.requires.0.widths; interval = omega (arith, c.requires.1, filling_size c.loop-at.invariant.filling) })
+    c.loop-at.invariant.filling.before
 
 pub loop-at-preserved : goal.loop-at-preserved
 loop-at-preserved c =
-    let inv = c.loop-at.invariant in
+    let inv = c.loop-at.invariant.filling in
     let place : GoodPlace c.args.shape (c.args.first + c.loop-at.at) =
     record { widths = c.requires.0.widths; interval = omega (arith, c.requires.1, filling_size inv) }
     in
-    rw c.next-quotient.ensures
-    (filling_goes_on inv place (omega (arith, filling_size inv)) (rw c.next-quotient.ensures at c.field.ensures))
+    record {
+      filling =
+          rw c.next-quotient.ensures
+          (filling_goes_on inv place (omega (arith, filling_size inv)) (rw c.next-quotient.ensures at c.field_past.ensures));
+      even_is = omega (arith, c.loop-at.invariant.even_is);
+    }
