@@ -1,12 +1,11 @@
 -- The input line of the listing. Document 01, "The listing", with the third word of document 02, L5. Assumes nothing.
-use Rattle.std.specs.Prelude.{ℕ, ◌+◌, ◌-◌, ◌*◌, Bool, ◌&&◌, cond, List, [], ◌∷◌, leb, eqb, length, get_or}
+use Rattle.std.specs.Prelude.{ℕ, ◌+◌, ◌-◌, ◌*◌, Bool, ◌&&◌, cond, List, [], ◌∷◌, leb, eqb, length, get_or, Result, Ok, Err}
 use Rattle.units.specs.Refusals.{refusal_number}
 use Rattle.units.specs.Shapes.{shape}
 use Rattle.units.specs.declared.kinds.Kind.{Kind}
 use Rattle.units.specs.declared.kinds.Kind.TheVariants.{Plain, WithOne}
+use Rattle.units.specs.declared.refusals.Refusal.{Refusal}
 use Rattle.units.specs.declared.shapes.Shape.{Shape}
-use Rattle.listing_line.specs.declared.line.Reading.{Reading}
-use Rattle.listing_line.specs.declared.line.Reading.TheVariants.{Asks, Refused}
 
 -- a byte of the input; past its end 0, which is no digit, no space and no newline
 abbrev pub byte_at : List ℕ → ℕ → ℕ
@@ -65,9 +64,9 @@ abbrev pub refused : ℕ → Line
 refused number = record { number = number; shape = shape 0 0 Plain }
 
 -- what each case of the reading says in document 01's numbers
-abbrev pub reported : Reading → Line
-reported (Asks s) = asks s
-reported (Refused r) = refused (refusal_number r)
+abbrev pub reported : Result Shape Refusal → Line
+reported (Ok s) = asks s
+reported (Err r) = refused (refusal_number r)
 
 -- "Otherwise it writes "refused 7"", and 7 is "for any other third word"
 unfoldable pub line_read : List ℕ → Line

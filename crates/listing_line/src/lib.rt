@@ -3,4 +3,4 @@
 
 mod line;
 
-pub use line::{Reading, read_line};
+pub use line::read_line;

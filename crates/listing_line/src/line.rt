@@ -1,92 +1,71 @@
 // The input of the listing, document 01: "one or two decimal digits, one space, one or two digits,
 // one newline, then the end"; and document 02: "an optional third word "one" after one space".
-ghost use Rattle.std.specs.Prelude.{◌≡◌, ◌-◌, ◌<◌, eqb, length};
+ghost use Rattle.std.specs.Prelude.{◌≡◌, ◌+◌, ◌-◌, ◌<◌, ◌≤◌, length};
 ghost use Rattle.listing_line.specs.Line.{byte_at, is_digit, word_end, word_value, one_at, kind_at, kind_word, formed, reported, line_read};
 
 use units::{Kind, Refusal, Shape};
-
-// What the input says: the shape of the table that it asks for, with widths in any range, or the
-// refusal of its form.
-#[derive(Clone, Copy)]
-pub enum Reading {
-    Asks(Shape),
-    Refused(Refusal),
-}
 
 // The byte at a place of the input, or 0 past its end.
 fn byte_at(s: &[u8], at: usize) -> u8
     ensures { result ≡ byte_at s.now at }
 {
-    if at < s.len() {
-        return s[at];
-    }
-    0
+    s.get(at).copied().unwrap_or(0)
 }
 
-fn is_digit(b: u8) -> bool
-    ensures { result ≡ is_digit b }
-{
-    (48 <= b) & (b <= 57)
-}
-
-// Whether a byte of the input is a digit, and whether it is a given byte.
+// Whether the byte at a place is a digit.
+#[tactic(auto, unfolding(crate::specs::Line::is_digit))]
 fn digit_at(s: &[u8], at: usize) -> bool
     ensures { result ≡ is_digit (byte_at s.now at) }
 {
-    is_digit(byte_at(s, at))
+    byte_at(s, at).is_ascii_digit()
 }
 
-fn is_at(s: &[u8], at: usize, b: u8) -> bool
-    ensures { result ≡ eqb (byte_at s.now at) b }
+// What the digit at a place shows. A byte below the digits shows 0.
+fn value_at(s: &[u8], at: usize) -> u32
+    ensures { result ≡ byte_at s.now at - 48 }
 {
-    byte_at(s, at) == b
+    byte_at(s, at).saturating_sub(b'0') as u32
 }
 
-// What a digit shows. A byte below the digits shows 0.
-fn digit_value(b: u8) -> u32
-    ensures { result ≡ b - 48 }
-{
-    if b < 48 {
-        return 0;
-    }
-    (b - 48) as u32
+// One or two digits: the number that they show, and the place after them.
+#[derive(Clone, Copy)]
+struct Word {
+    value: u32,
+    end: usize,
 }
 
-// The place after the one or two digits at a place.
-fn word_end(s: &[u8], at: usize) -> usize
+// The word at a place.
+#[tactic(auto, unfolding(crate::specs::Line::word_value, crate::specs::Line::word_end))]
+fn word_at(s: &[u8], at: usize) -> Word
     requires { at < 100 }
-    ensures { result ≡ word_end s.now at }
+    ensures value { result.value ≡ word_value s.now at }
+    ensures end { result.end ≡ word_end s.now at }
+    ensures short { result.end ≤ at + 2 }
 {
+    let first = value_at(s, at);
     if digit_at(s, at + 1) {
-        return at + 2;
+        return Word {
+            value: 10 * first + value_at(s, at + 1),
+            end: at + 2,
+        };
     }
-    at + 1
+    Word {
+        value: first,
+        end: at + 1,
+    }
 }
 
-// The number that the one or two digits at a place show.
-fn word_value(s: &[u8], at: usize) -> u32
-    requires { at < 100 }
-    ensures { result ≡ word_value s.now at }
-{
-    let first = digit_value(byte_at(s, at));
-    if digit_at(s, at + 1) {
-        return 10 * first + digit_value(byte_at(s, at + 1));
-    }
-    first
-}
-
-// Whether " one" stands at a place. Here, and where the form is tested, every test is made, whatever
-// the others say: so there is one way out, and a short proof.
+// Whether " one" stands at a place.
+#[tactic(auto, unfolding(crate::specs::Line::one_at))]
 fn one_at(s: &[u8], at: usize) -> bool
-    requires { at < 100 }
     ensures { result ≡ one_at s.now at }
 {
-    is_at(s, at, 32) & (is_at(s, at + 1, 111) & (is_at(s, at + 2, 110) & is_at(s, at + 3, 101)))
+    s.get(at..).is_some_and(|rest| rest.starts_with(b" one"))
 }
 
 // The kind that is said at a place: plain where nothing is.
+#[tactic(auto, unfolding(crate::specs::Line::kind_at))]
 fn kind_at(s: &[u8], at: usize) -> Kind
-    requires { at < 100 }
     ensures { result ≡ kind_at s.now at }
 {
     if one_at(s, at) {
@@ -97,7 +76,8 @@ fn kind_at(s: &[u8], at: usize) -> Kind
 
 // How many bytes say a kind.
 fn word_length(kind: Kind) -> usize
-    ensures { result ≡ length (kind_word kind) }
+    ensures value { result ≡ length (kind_word kind) }
+    ensures short { result ≤ 4 }
 {
     match kind {
         Kind::Plain => 0,
@@ -106,25 +86,30 @@ fn word_length(kind: Kind) -> usize
 }
 
 // Whether the input has the form, with a the place after the first digits and c that after the kind.
+#[tactic(auto, unfolding(crate::specs::Line::formed))]
 fn is_formed(s: &[u8], a: usize, c: usize) -> bool
     requires { (a < 100) × (c < 100) }
     ensures { result ≡ formed s.now a c }
 {
     digit_at(s, 0)
-        & (is_at(s, a, 32) & (digit_at(s, a + 1) & (is_at(s, c, 10) & (s.len() == c + 1))))
+        && byte_at(s, a) == b' '
+        && digit_at(s, a + 1)
+        && byte_at(s, c) == b'\n'
+        && s.len() == c + 1
 }
 
 // "The program reads standard input: one or two decimal digits, one space, one or two digits, one
 // newline, then the end. Leading zeros are allowed. Otherwise it writes "refused 7"." Before the
 // newline " one" may stand.
-pub fn read_line(input: &[u8]) -> Reading
+#[tactic(auto, unfolding(crate::specs::Line::line_read, crate::specs::Line::is_line, crate::specs::Line::kind_end))]
+pub fn read_line(input: &[u8]) -> Result<Shape, Refusal>
     ensures { reported result ≡ line_read input.now }
 {
-    let a = word_end(input, 0);
-    let b = word_end(input, a + 1);
-    let kind = kind_at(input, b);
-    if is_formed(input, a, b + word_length(kind)) {
-        return Reading::Asks(Shape::of(word_value(input, 0), word_value(input, a + 1), kind));
+    let first = word_at(input, 0);
+    let second = word_at(input, first.end + 1);
+    let kind = kind_at(input, second.end);
+    if is_formed(input, first.end, second.end + word_length(kind)) {
+        return Ok(Shape::of(first.value, second.value, kind));
     }
-    Reading::Refused(Refusal::Line)
+    Err(Refusal::Line)
 }

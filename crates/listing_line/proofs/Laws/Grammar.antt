@@ -1,22 +1,22 @@
 -- The definition of the input line is the documents' grammar: what is written so is read so, and what is read so was written so.
 -- Assumes nothing.
 use Prim.Native.Nat.{ℕ, ◌+◌, ◌-◌, ◌*◌, ◌≤◌, ◌<◌}
-use mathlib.Core.Bool.{Bool, true, false, cond, ◌&&◌, false≢true}
+use mathlib.Core.Bool.{Bool, true, false, cond}
 use mathlib.Core.List.{List, [], ◌∷◌, ◌++◌}
+use mathlib.Core.Logic.{inl, inr}
 use mathlib.Core.Path.{◌≡◌, refl, sym, ap, subst, ◌∙◌}
 use native.Mathlib.Numerals.{add-one}
 use native.Mathlib.Omega.{arith}
-use borrow.Author.Tests.{le-leb, leb-true, eqb-true}
-use lib.Dec.{leb, eqb}
 use lib.ListN.{length, take, drop, length-append, get_or-eq_default, drop_of_length-le}
 use lib.Seq.{drop-cons, take_all, length-take-le}
+use Rattle.std.proofs.lemmas.Bool.{cases_Bool}
+use Rattle.std.proofs.lemmas.Bool.Decides.{nat_tests}
 use Rattle.units.proofs.Laws.Order.{by_order}
 use Rattle.units.specs.Shapes.{shape}
 use Rattle.units.specs.declared.kinds.Kind.{Kind}
 use Rattle.units.specs.declared.kinds.Kind.TheVariants.{Plain, WithOne}
 use Rattle.units.specs.declared.shapes.Shape.{Shape}
 use Rattle.listing_line.specs.Line.{byte_at, is_digit, word_end, word_value, kind_word, one_at, kind_at, kind_end, formed, widths_end, is_line, Line, asks, refused, line_read}
-use Rattle.listing_line.proofs.Laws.Line.{kind_word_most}
 
 -- "one or two decimal digits", and the number that they show. The digit v is the byte 48 + v. "Leading zeros are allowed."
 pub data Digits : List ℕ → ℕ → Type 0 where
@@ -33,7 +33,7 @@ pub record Written (s : List ℕ) (t : Shape) : Type 0 where
 
 digit_is : (v : ℕ) → v ≤ 9 → is_digit (48 + v) ≡ true
 unfolding is_digit
-digit_is v h = simp (le-leb 48 (48 + v) (omega arith), le-leb (48 + v) 57 (omega arith))
+digit_is v h = grind (arith, nat_tests)
 
 space_is_none : is_digit 32 ≡ false
 unfolding is_digit
@@ -71,15 +71,9 @@ joined_reads (two t v g h) (two u w i j) WithOne =
 pub written_reads : {s : List ℕ} {t : Shape} → Written s t → line_read s ≡ asks t
 written_reads {t = t} w = ap line_read w.whole ∙ joined_reads w.input_width w.output_width t.kind
 
-both : (x y : Bool) → (x && y) ≡ true → (x ≡ true) × (y ≡ true)
-both true y h = (refl, h)
-both false y h = absurd (false≢true h)
-
 in_range : (b : ℕ) → is_digit b ≡ true → (48 ≤ b) × (b ≤ 57)
 unfolding is_digit
-in_range b h =
-    let tests = both (leb 48 b) (leb b 57) h in
-    (leb-true 48 b tests.0, leb-true b 57 tests.1)
+in_range b h = grind (arith, nat_tests)
 
 from_zero : (b : ℕ) → is_digit b ≡ true → 48 + (b - 48) ≡ b
 from_zero b h = omega (arith, in_range b h)
@@ -127,17 +121,18 @@ kind_by : (s : List ℕ) (at : ℕ) (t : Bool) → one_at s at ≡ t
     → drop at s ≡ kind_word (cond t WithOne Plain) ++ drop (at + length (kind_word (cond t WithOne Plain))) s
 unfolding one_at
 kind_by s at true h =
-    let p = both (eqb (byte_at s at) 32) _ h in
-    let q = both (eqb (byte_at s (at + 1)) 111) _ p.1 in
-    let r = both (eqb (byte_at s (at + 2)) 110) (eqb (byte_at s (at + 3)) 101) q.1 in
+    let space : byte_at s at ≡ 32 = grind (arith, nat_tests) in
+    let o : byte_at s (at + 1) ≡ 111 = grind (arith, nat_tests) in
+    let n : byte_at s (at + 2) ≡ 110 = grind (arith, nat_tests) in
+    let e : byte_at s (at + 3) ≡ 101 = grind (arith, nat_tests) in
     let second : at + 1 + 1 ≡ at + 2 = omega arith in
     let third : at + 2 + 1 ≡ at + 3 = omega arith in
     let fourth : at + 3 + 1 ≡ at + 4 = omega arith in
     cc (
-      stands s at 32 (eqb-true _ 32 p.0) (omega arith),
-      stands s (at + 1) 111 (eqb-true _ 111 q.0) (omega arith),
-      stands s (at + 2) 110 (eqb-true _ 110 r.0) (omega arith),
-      stands s (at + 3) 101 (eqb-true _ 101 r.1) (omega arith),
+      stands s at 32 space (omega arith),
+      stands s (at + 1) 111 o (omega arith),
+      stands s (at + 2) 110 n (omega arith),
+      stands s (at + 3) 101 e (omega arith),
       second,
       third,
       fourth,
@@ -161,16 +156,12 @@ record Tested (s : List ℕ) (a c : ℕ) : Type 0 where
 tested : (s : List ℕ) (a c : ℕ) → formed s a c ≡ true → Tested s a c
 unfolding formed
 tested s a c h =
-    let p = both (is_digit (byte_at s 0)) _ h in
-    let q = both (eqb (byte_at s a) 32) _ p.1 in
-    let r = both (is_digit (byte_at s (a + 1))) _ q.1 in
-    let t = both (eqb (byte_at s c) 10) (eqb (length s) (c + 1)) r.1 in
     record {
-      digit = p.0;
-      space = eqb-true _ 32 q.0;
-      next = r.0;
-      newline = eqb-true _ 10 t.0;
-      end = eqb-true _ _ t.1;
+      digit = grind (arith, nat_tests);
+      space = grind (arith, nat_tests);
+      next = grind (arith, nat_tests);
+      newline = grind (arith, nat_tests);
+      end = grind (arith, nat_tests);
     }
 
 -- what is asked for, where the input has the form
@@ -203,27 +194,28 @@ not_line_refused : (s : List ℕ) → is_line s ≡ false → line_read s ≡ re
 unfolding line_read
 not_line_refused s e = rw e
 
-by_line : (s : List ℕ) {G : Type 0} (t : Bool) → is_line s ≡ t → (is_line s ≡ true → G) → (is_line s ≡ false → G) → G
-by_line s true e f g = f e
-by_line s false e f g = g e
-
 -- what is read so was written so
 pub reads_written : (s : List ℕ) (t : Shape) → line_read s ≡ asks t → Written s t
 reads_written s t e =
-    by_line s (is_line s) refl
-    (λ h.
-    let w = line_written s h in
-    subst (Written s) (ap (λ (l : Line). l.shape) (sym (written_reads w) ∙ e)) w)
-    (λ h. absurd (omega (arith, ap (λ (l : Line). l.number) (sym (not_line_refused s h) ∙ e))))
+    elim (cases_Bool (is_line s)) [
+      | inl h ↦
+          let w = line_written s h in subst (Written s) (ap (λ (l : Line). l.shape) (sym (written_reads w) ∙ e)) w
+      | inr h ↦ absurd (omega (arith, ap (λ (l : Line). l.number) (sym (not_line_refused s h) ∙ e)))
+    ]
 
 -- "Otherwise it writes "refused 7"."
 pub otherwise_refused : (s : List ℕ) → ((t : Shape) → Written s t → ⊥) → line_read s ≡ refused 7
-otherwise_refused s none = by_line s (is_line s) refl (λ h. absurd (none _ (line_written s h))) (not_line_refused s)
+otherwise_refused s none =
+    elim (cases_Bool (is_line s)) [ inl h ↦ absurd (none _ (line_written s h)) | inr h ↦ not_line_refused s h ]
 
 -- no line has more than 10 bytes
 few_digits : {a : List ℕ} {k : ℕ} → Digits a k → length a ≤ 2
 few_digits (one v h) = omega arith
 few_digits (two u v g h) = omega arith
+
+kind_word_most : (kind : Kind) → length (kind_word kind) ≤ 4
+kind_word_most Plain = omega arith
+kind_word_most WithOne = omega arith
 
 written_short : {s : List ℕ} {t : Shape} → Written s t → length s ≤ 10
 written_short {t = t} w =
