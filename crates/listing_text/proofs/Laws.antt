@@ -1,5 +1,3 @@
-pub mod Put
-pub mod Spelled
 pub mod Decimal
 pub mod Pages
 pub mod Listing

@@ -1,7 +1,6 @@
 // The decimal digits of a number.
-ghost use Rattle.std.specs.Prelude.{◌≡◌, ◌+◌, ◌≤◌, length};
+ghost use Rattle.std.specs.Prelude.{◌≡◌, length};
 ghost use Rattle.io.specs.Digits.{last_digits};
-ghost use Rattle.listing_text.specs.Inner.Pages.{Put};
 ghost use Rattle.listing_text.specs.Text.{places as Text·places};
 
 // How many digits n has. Four are passed at a time while there are more, for the price of one
@@ -27,18 +26,14 @@ pub fn places(n: u64) -> usize
     passed + 4
 }
 
-// Puts the last digits of n, as many as `count` says, at a place of the page, and answers the place
-// after them. They are put from the last to the first: division by ten gives the last one.
-pub fn put_digits(page: &mut [u8], at: usize, n: u64, count: usize) -> usize
-    requires { at + count ≤ length page.old }
-    ensures { Put (last_digits 10 count n) count page.old at page.new result }
+// Fills the cells with the last digits of n, from the last to the first: division by ten gives the
+// last one.
+pub fn put_digits(cells: &mut [u8], n: u64)
+    ensures { cells.new ≡ last_digits 10 (length cells.old) n }
 {
     let mut rest = n;
-    let mut left = count;
-    while left > 0 {
-        left -= 1;
-        page[at + left] = 48 + (rest % 10) as u8;
+    for i in (0..cells.len()).rev() {
+        cells[i] = b'0' + (rest % 10) as u8;
         rest /= 10;
     }
-    at + count
 }

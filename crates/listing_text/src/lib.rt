@@ -2,8 +2,8 @@
 #![tactic(auto)]
 
 mod digits;
-mod fields;
 mod lines;
+mod page;
 mod pages;
 
 pub use lines::{LINE_MOST, put_refused};

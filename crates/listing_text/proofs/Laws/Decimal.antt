@@ -5,6 +5,7 @@ use native.Mathlib.Nat.{pow-suc, one-le-pow, le-div_iff_mul-le, div-lt_iff_lt-mu
 use native.Mathlib.Omega.{arith}
 use lib.Pow.{pow-add}
 use borrow.Author.Tests.{lt-ltb, le-ltb}
+use Rattle.std.proofs.lemmas.Slice.{overwrites}
 use Rattle.units.proofs.Laws.Order.{by_order}
 use Rattle.io.specs.Digits.{last_digits, IsDigitCount}
 use Rattle.listing_text.specs.Text.{places, decimal}
@@ -56,3 +57,6 @@ unfolding places
 places_at_most zero n = omega arith
 places_at_most (suc most) n =
     by_order 10 n (λ large. rw (le-ltb n 10 large) (omega (arith, places_at_most most (n / 10)))) (λ small. rw (lt-ltb n 10 small) (omega arith))
+
+-- how many digits are put, and where
+pub ruleset put_places = (places_at_most, overwrites)

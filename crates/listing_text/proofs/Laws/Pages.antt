@@ -5,7 +5,7 @@ use mathlib.Core.List.{List, [], ◌++◌, append_assoc, append-nil}
 use native.Mathlib.Nat.{suc-add, zero-add, add-zero}
 use native.Mathlib.Omega.{arith}
 use borrow.Author.Tests.{lt-ltb, le-ltb}
-use lib.ListN.{length, take, get_or}
+use lib.ListN.{take, get_or}
 use Rattle.units.specs.declared.shapes.Shape.{Shape}
 use Rattle.entry.specs.Inner.Good.{GoodPlace, GoodEntry}
 use Rattle.entry.specs.Errors.{j_of}
@@ -13,7 +13,7 @@ use Rattle.entry.proofs.Laws.Good.{good_field}
 use Rattle.entry.proofs.Laws.Table.{rule_field_narrow}
 use Rattle.survey.specs.Finding.{Figures}
 use Rattle.listing_text.specs.Text.{first_line, entry_line, last_line, refused_line}
-use Rattle.listing_text.specs.Inner.Pages.{line_most, Put, Listed, IsPart, Paged}
+use Rattle.listing_text.specs.Inner.Pages.{Put, Listed, IsPart}
 use Rattle.entry.specs.Rule.{rule_field}
 use Rattle.listing_text.specs.Listing.{Lines, line_of, lines_from, part, best_figures, refused_text, text_for, listing}
 
@@ -40,11 +40,13 @@ parts_join text from next to h i =
     rw (split, lines_join text.line from (next - from) (to - next), seam) refl
 
 -- one more line
-pub part_more : (text : Lines) (from next : ℕ) → from ≤ next → part text from (next + 1) ≡ part text from next ++ text.line next
+pub lines_more : (line : ℕ → List ℕ) (from next : ℕ) → from ≤ next
+    → lines_from line from (next + 1 - from) ≡ lines_from line from (next - from) ++ line next
 unfolding lines_from
-part_more text from next h =
+lines_more line from next h =
     let one : next + 1 - next ≡ 1 = omega arith in
-    parts_join text from next (next + 1) h (omega arith) ∙ rw one (ap (λ (r : List ℕ). part text from next ++ r) (append-nil (text.line next)))
+    let text : Lines = record { count = next + 1; line = line } in
+    parts_join text from next (next + 1) h (omega arith) ∙ rw one (ap (λ (r : List ℕ). part text from next ++ r) (append-nil (line next)))
 
 pub line_of_first : (s : Shape) → line_of s 0 ≡ first_line s
 unfolding line_of
@@ -67,37 +69,11 @@ listed_entry s n listed h =
     let place : GoodPlace s n = record { widths = listed.good.widths; interval = h } in
     rw (listed.fields n h) (good_field (rule_field s n) place (rule_field_narrow s h))
 
--- a page that holds the lines from `from` up to `next` in its bytes up to `end`, and has room for the next one
-pub record Ready (text : Lines) (from : ℕ) (page : List ℕ) (next end : ℕ) : Type 0 where
-  pub onward : from ≤ next
-  pub more : next < text.count
-  pub room : end + line_most ≤ length page
-  pub text_is : take end page ≡ part text from next
+-- which line is put, and what an entry's needs
+pub ruleset put_lines = (line_of_first, line_of_entry, line_of_last, listed_entry)
 
-pub ready_first : (text : Lines) (from : ℕ) (page : List ℕ) → from < text.count → line_most ≤ length page → Ready text from page from 0
-ready_first text from page h i =
-    record { onward = omega arith; more = h; room = omega arith; text_is = sym (lines_none text.line from) }
-
-pub ready_again : {text : Lines} {from next end : ℕ} {page : List ℕ} → Paged text from page next end → next < text.count
-    → end + line_most ≤ length page
-    → Ready text from page next end
-ready_again p h i =
-    record { onward = omega (arith, p.lines.some); more = h; room = i; text_is = p.lines.bytes_are }
-
--- where the next line is put, the page holds one more
-pub page_more : (text : Lines) (from : ℕ) {next at end : ℕ} {before after : List ℕ} → Ready text from before next at
-    → Put (text.line next) line_most before at after end
-    → Paged text from after (next + 1) end
-page_more text from {next} r p =
-    record {
-      inside = omega (arith, r.room, p.size, p.room);
-      lines =
-          record {
-            some = omega (arith, r.onward);
-            within = omega (arith, r.more);
-            bytes_are = p.text_is ∙ ap (λ (x : List ℕ). x ++ text.line next) r.text_is ∙ sym (part_more text from next r.onward);
-          };
-    }
+-- how the lines of a page begin and grow
+pub ruleset filled_lines = (lines_none, lines_more)
 
 -- the same bytes, and the same text
 pub part_of : {text other : Lines} {from next : ℕ} {bytes same : List ℕ} → IsPart text from next bytes → text ≡ other → same ≡ bytes
