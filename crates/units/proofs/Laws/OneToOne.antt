@@ -1,6 +1,7 @@
 -- A case of an answer is known by document 01's number for it: so an answer that is stated by its numbers is stated whole.
 -- Assumes nothing.
 use Prim.Native.Nat.{ℕ}
+use Rattle.std.specs.Prelude.{Result, Ok, Err}
 use mathlib.Core.Bool.{cond}
 use mathlib.Core.Path.{◌≡◌, refl, sym, ap, ◌∙◌}
 use lib.Dec.{eqb}
@@ -8,8 +9,6 @@ use Rattle.units.specs.Sides.{side_number}
 use Rattle.units.specs.Refusals.{Reply, reply_of, refusal_number}
 use Rattle.units.specs.declared.counts.Side.{Side}
 use Rattle.units.specs.declared.counts.Side.TheVariants.{Left, Right}
-use Rattle.units.specs.declared.refusals.Outcome.{Outcome}
-use Rattle.units.specs.declared.refusals.Outcome.TheVariants.{Done, Refused}
 use Rattle.units.specs.declared.refusals.Refusal.{Refusal}
 use Rattle.units.specs.declared.refusals.Refusal.TheVariants.{InputWidth, OutputWidth, FewCells, Place, Divisor, Line, ShortText}
 
@@ -43,13 +42,14 @@ refused_reads Divisor done wide refused = refl
 refused_reads Line done wide refused = refl
 refused_reads ShortText done wide refused = refl
 
-outcome_of : Reply → Outcome
-outcome_of b = by_number b.number Done Done Refused
+-- an answer that has no other value
+answer_of : Reply → Result (Unit {0}) Refusal
+answer_of b = by_number b.number (Ok tt) (Ok tt) (λ (r : Refusal). Err r)
 
-outcome_reads : (o : Outcome) → outcome_of (reply_of o) ≡ o
-unfolding outcome_of
-outcome_reads Done = refl
-outcome_reads (Refused r) = refused_reads r Done Done Refused
+answer_reads : (o : Result (Unit {0}) Refusal) → answer_of (reply_of o) ≡ o
+unfolding answer_of
+answer_reads (Ok _) = refl
+answer_reads (Err r) = refused_reads r (Ok tt) (Ok tt) (λ (r : Refusal). Err r)
 
-pub outcome_one_to_one : (a b : Outcome) → reply_of a ≡ reply_of b → a ≡ b
-outcome_one_to_one = one_to_one reply_of outcome_of outcome_reads
+pub outcome_one_to_one : (a b : Result (Unit {0}) Refusal) → reply_of a ≡ reply_of b → a ≡ b
+outcome_one_to_one = one_to_one reply_of answer_of answer_reads

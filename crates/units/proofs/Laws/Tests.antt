@@ -7,8 +7,8 @@ use native.Mathlib.Omega.{arith}
 use borrow.Author.Tests.{ltb-false, le-ltb, ne_eqb, eqb-false}
 use lib.Dec.{ltb, eqb}
 use Rattle.units.specs.Refusals.{Reply, reply, reply_of, refusal_number, Test, answer, refusal, then_reply, outside}
-use Rattle.units.specs.declared.refusals.Outcome.{Outcome}
-use Rattle.units.specs.declared.refusals.Outcome.TheVariants.{Done, Refused}
+use Rattle.std.specs.Prelude.{Result, Ok, Err, IsErrAnd}
+use Rattle.std.specs.Result.{result_and}
 use Rattle.units.specs.declared.refusals.Refusal.{Refusal}
 use Rattle.units.specs.declared.refusals.Refusal.TheVariants.{InputWidth, OutputWidth, FewCells, Place, Divisor, Line, ShortText}
 
@@ -100,9 +100,15 @@ then_joins (t ∷ ts) rest p = join t.holds t.gives p.0 (refusal (ts ++ rest)) (
     join true gives h all some e = sym (simp (ne_eqb gives.number 0 (λ z. omega arith)))
     join false gives h all some e = e
 
-pub then_is : (ts rest : List Test) → Numbered ts → {a b both : Reply} → both ≡ then_reply a b → a ≡ refusal ts → b ≡ refusal rest
-    → both ≡ refusal (ts ++ rest)
-then_is ts rest p e a b = e ∙ ap₂ then_reply a b ∙ sym (then_joins ts rest p)
+-- where the first list is done, the second one counts
+reply_and : {A B : Type 0} (a : Result A Refusal) (b : Result B Refusal) → reply_of (result_and a b) ≡ then_reply (reply_of a) (reply_of b)
+reply_and (Ok x) b = refl
+reply_and (Err r) b = then_refused r (reply_of b)
+
+pub and_is : {A B : Type 0} (ts rest : List Test) → Numbered ts → (a : Result A Refusal) (b : Result B Refusal) → reply_of a ≡ refusal ts
+    → reply_of b ≡ refusal rest
+    → reply_of (result_and a b) ≡ refusal (ts ++ rest)
+and_is ts rest p a b first second = reply_and a b ∙ ap₂ then_reply first second ∙ sym (then_joins ts rest p)
 
 -- one list passed, and the other; and back
 pub passed_parts : (ts rest : List Test) → Passed (ts ++ rest) → Passed ts × Passed rest
@@ -192,14 +198,25 @@ other_passed {A} number refuse done q (t ∷ ts) apart gives e =
     by_test true is rest e = absurd (eqb-false t.gives.number q apart.0 (sym (gives t.gives) ∙ e))
     by_test false is rest e = (is, rest e)
 
--- what the code knows after a function has made some tests. They refused, so the call's answer is their number
-pub refused_so : {A : Type 0} (refuse : Reply → A) (done : A) (ts rest : List Test) {o : Outcome} (r : Refusal) → o ≡ Refused r → reply_of o ≡ refusal ts
+-- What the code knows after a function has made some tests. They refused with r, so the call's answer is r's number
+pub refused_so : {A : Type 0} (refuse : Reply → A) (done : A) (ts rest : List Test) (r : Refusal) → reply (refusal_number r) 0 ≡ refusal ts
     → refuse (reply (refusal_number r) 0) ≡ answer refuse done (ts ++ rest)
-refused_so refuse done ts rest r is tests = refused_by refuse done ts rest (sym (ap reply_of is) ∙ tests) (refusal_numbered r)
+refused_so refuse done ts rest r tests = refused_by refuse done ts rest tests (refusal_numbered r)
+
+-- and where `?` hands r on, the function's
+pub handed_on : {A : Type 0} (ts rest : List Test) (o : Result A Refusal) (r : Refusal) → IsErrAnd o (λ e. e ≡ r)
+    → reply (refusal_number r) 0 ≡ refusal ts
+    → reply_of o ≡ refusal (ts ++ rest)
+handed_on ts rest (Ok x) r is tests = absurd is
+handed_on ts rest (Err e) r is tests = rw is (refused_so (λ (b : Reply). b) (reply 0 0) ts rest r tests)
 
 -- they are done, so none of their reasons holds
-pub done_so : (ts : List Test) → Numbered ts → {o : Outcome} → o ≡ Done → reply_of o ≡ refusal ts → Passed ts
-done_so ts p is tests = all_passed ts p (sym (ap (λ (b : Reply). b.number) (sym (ap reply_of is) ∙ tests)))
+pub done_so : (ts : List Test) → Numbered ts → reply 0 0 ≡ refusal ts → Passed ts
+done_so ts p tests = all_passed ts p (sym (ap (λ (b : Reply). b.number) tests))
+
+-- and what comes after them counts
+pub then_so : (ts rest : List Test) → Numbered ts → reply 0 0 ≡ refusal ts → {b : Reply} → b ≡ refusal rest → b ≡ refusal (ts ++ rest)
+then_so ts rest p tests e = e ∙ rest_answers (λ (b : Reply). b) (reply 0 0) ts rest (done_so ts p tests)
 
 -- a number that is not outside
 pub or_false : (a b : Bool) → (a || b) ≡ false → (a ≡ false) × (b ≡ false)
