@@ -6,7 +6,9 @@ use mathlib.Core.Bool.{cond}
 use mathlib.Core.Path.{◌≡◌, refl, sym, ap, ◌∙◌}
 use lib.Dec.{eqb}
 use Rattle.units.specs.Sides.{side_number}
-use Rattle.units.specs.Refusals.{Reply, reply_of, refusal_number}
+use Rattle.units.specs.Refusals.{Reply, reply_of, fault_reply, refusal_number}
+use Rattle.units.specs.declared.refusals.Fault.{Fault}
+use Rattle.units.specs.declared.refusals.Fault.TheVariants.{TooWide, Refused}
 use Rattle.units.specs.declared.counts.Side.{Side}
 use Rattle.units.specs.declared.counts.Side.TheVariants.{Left, Right}
 use Rattle.units.specs.declared.refusals.Refusal.{Refusal}
@@ -41,6 +43,15 @@ refused_reads Place done wide refused = refl
 refused_reads Divisor done wide refused = refl
 refused_reads Line done wide refused = refl
 refused_reads ShortText done wide refused = refl
+
+-- the fault that a number and an n name, where there is one
+abbrev pub by_fault : {A : Type 0} → ℕ → ℕ → A → (Fault → A) → A
+by_fault q n done faulty = by_number q done (faulty (TooWide (record { 0 = n }))) (λ (r : Refusal). faulty (Refused r))
+
+pub fault_reads : {A : Type 0} (fault : Fault) (done : A) (faulty : Fault → A)
+    → by_fault (fault_reply fault).number (fault_reply fault).n done faulty ≡ faulty fault
+fault_reads (TooWide n) done faulty = refl
+fault_reads (Refused r) done faulty = refused_reads r done _ (λ (r : Refusal). faulty (Refused r))
 
 -- an answer that has no other value
 answer_of : Reply → Result (Unit {0}) Refusal

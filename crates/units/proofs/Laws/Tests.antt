@@ -203,12 +203,16 @@ pub refused_so : {A : Type 0} (refuse : Reply → A) (done : A) (ts rest : List 
     → refuse (reply (refusal_number r) 0) ≡ answer refuse done (ts ++ rest)
 refused_so refuse done ts rest r tests = refused_by refuse done ts rest tests (refusal_numbered r)
 
--- and where `?` hands r on, the function's
-pub handed_on : {A : Type 0} (ts rest : List Test) (o : Result A Refusal) (r : Refusal) → IsErrAnd o (λ e. e ≡ r)
+-- What `?` hands on is that error, whatever is read off the answer
+pub handed_on : {A E R : Type 0} (report : Result A E → R) (o : Result A E) (e : E) → IsErrAnd o (λ (x : E). x ≡ e) → report o ≡ report (Err e)
+handed_on report (Ok x) e is = absurd is
+handed_on report (Err x) e is = ap (λ (y : _). report (Err y)) is
+
+-- so the function's answer is r's number, too
+pub refused_on : {A : Type 0} (ts rest : List Test) (o : Result A Refusal) (r : Refusal) → IsErrAnd o (λ (e : Refusal). e ≡ r)
     → reply (refusal_number r) 0 ≡ refusal ts
     → reply_of o ≡ refusal (ts ++ rest)
-handed_on ts rest (Ok x) r is tests = absurd is
-handed_on ts rest (Err e) r is tests = rw is (refused_so (λ (b : Reply). b) (reply 0 0) ts rest r tests)
+refused_on ts rest o r is tests = handed_on reply_of o r is ∙ refused_so (λ (b : Reply). b) (reply 0 0) ts rest r tests
 
 -- they are done, so none of their reasons holds
 pub done_so : (ts : List Test) → Numbered ts → reply 0 0 ≡ refusal ts → Passed ts

@@ -7,7 +7,7 @@ use Rattle.std.specs.Result.{result_and}
 use Rattle.units.specs.Refusals.{reply_of, refusal, input_width, output_width, width_tests}
 use Rattle.units.specs.declared.refusals.Refusal.{Refusal}
 use Rattle.units.specs.declared.shapes.Shape.{Shape}
-use Rattle.units.proofs.Laws.Tests.{and_is, handed_on, done_so}
+use Rattle.units.proofs.Laws.Tests.{and_is, refused_on, done_so}
 use Rattle.units.proofs.Laws.Good.{widths_good}
 use Rattle.units.proofs.refusals.widths.Goals as goal
 
@@ -19,7 +19,7 @@ both s a b o e first second = ap reply_of e ∙ and_is (input_width s.k ∷ []) 
 
 pub returns-in_err-and-clause-answer : goal.returns-in_err-and-clause-answer
 returns-in_err-and-clause-answer c =
-    handed_on (width_tests c.args.shape) [] _ _ c.from_residual.ensures.1
+    refused_on (width_tests c.args.shape) [] _ _ c.from_residual.ensures.1
     (both c.args.shape _ _ _ c.in_err-and.ensures c.input_width.ensures c.output_width.ensures)
 
 pub returns-clause-answer : goal.returns-clause-answer
