@@ -6,7 +6,9 @@ use mathlib.Core.Path.{◌≡◌, refl, sym, ap, ap₂, ◌∙◌}
 use native.Mathlib.Omega.{arith}
 use borrow.Author.Tests.{ltb-false, le-ltb, ne_eqb, eqb-false}
 use lib.Dec.{ltb, eqb}
-use Rattle.units.specs.Refusals.{Reply, reply, reply_of, refusal_number, Test, answer, refusal, then_reply, outside}
+use Rattle.units.specs.declared.refusals.Fault.{Fault}
+use Rattle.units.specs.declared.refusals.Fault.TheVariants.{TooWide, Refused}
+use Rattle.units.specs.Refusals.{Reply, reply, reply_of, fault_reply, refusal_number, Test, answer, refusal, then_reply, outside}
 use Rattle.std.specs.Prelude.{Result, Ok, Err, IsErrAnd}
 use Rattle.std.specs.Result.{result_and}
 use Rattle.units.specs.declared.refusals.Refusal.{Refusal}
@@ -105,10 +107,12 @@ reply_and : {A B : Type 0} (a : Result A Refusal) (b : Result B Refusal) → rep
 reply_and (Ok x) b = refl
 reply_and (Err r) b = then_refused r (reply_of b)
 
-pub and_is : {A B : Type 0} (ts rest : List Test) → Numbered ts → (a : Result A Refusal) (b : Result B Refusal) → reply_of a ≡ refusal ts
+pub and_is : {A B : Type 0} (ts rest : List Test) → Numbered ts → (a : Result A Refusal) (b o : Result B Refusal) → o ≡ result_and a b
+    → reply_of a ≡ refusal ts
     → reply_of b ≡ refusal rest
-    → reply_of (result_and a b) ≡ refusal (ts ++ rest)
-and_is ts rest p a b first second = reply_and a b ∙ ap₂ then_reply first second ∙ sym (then_joins ts rest p)
+    → reply_of o ≡ refusal (ts ++ rest)
+and_is ts rest p a b o both first second =
+    ap reply_of both ∙ reply_and a b ∙ ap₂ then_reply first second ∙ sym (then_joins ts rest p)
 
 -- one list passed, and the other; and back
 pub passed_parts : (ts rest : List Test) → Passed (ts ++ rest) → Passed ts × Passed rest
@@ -213,6 +217,15 @@ pub refused_on : {A : Type 0} (ts rest : List Test) (o : Result A Refusal) (r : 
     → reply (refusal_number r) 0 ≡ refusal ts
     → reply_of o ≡ refusal (ts ++ rest)
 refused_on ts rest o r is tests = handed_on reply_of o r is ∙ refused_so (λ (b : Reply). b) (reply 0 0) ts rest r tests
+
+-- they ended in a fault
+pub fault_numbered : (fault : Fault) → 0 < (fault_reply fault).number
+fault_numbered (TooWide n) = omega arith
+fault_numbered (Refused r) = refusal_numbered r
+
+pub fault_so : {A : Type 0} (refuse : Reply → A) (done : A) (ts rest : List Test) (fault : Fault) → fault_reply fault ≡ refusal ts
+    → refuse (fault_reply fault) ≡ answer refuse done (ts ++ rest)
+fault_so refuse done ts rest fault tests = refused_by refuse done ts rest tests (fault_numbered fault)
 
 -- they are done, so none of their reasons holds
 pub done_so : (ts : List Test) → Numbered ts → reply 0 0 ≡ refusal ts → Passed ts

@@ -15,7 +15,7 @@ use Rattle.units.proofs.refusals.widths.Goals as goal
 both : (s : Shape) (a b o : Result (Unit {0}) Refusal) → o ≡ result_and a b → reply_of a ≡ refusal (input_width s.k ∷ [])
     → reply_of b ≡ refusal (output_width s.m ∷ [])
     → reply_of o ≡ refusal (width_tests s)
-both s a b o e first second = ap reply_of e ∙ and_is (input_width s.k ∷ []) (output_width s.m ∷ []) (omega arith) a b first second
+both s a b o e first second = and_is (input_width s.k ∷ []) (output_width s.m ∷ []) (omega arith) a b o e first second
 
 pub returns-in_err-and-clause-answer : goal.returns-in_err-and-clause-answer
 returns-in_err-and-clause-answer c =
