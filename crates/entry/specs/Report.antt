@@ -1,12 +1,12 @@
 -- The answer of "Entry error". Document 01, "The calls" and "Refusal numbers and their order". Assumes nothing.
-use Rattle.std.specs.Prelude.{ℕ, List, [], ◌∷◌, ◌++◌, ℤ, pos}
-use Rattle.units.specs.Refusals.{Reply, reply, Test, answer, refusal_number, width_tests, place}
+use Rattle.std.specs.Prelude.{ℕ, List, [], ◌∷◌, ◌++◌, ℤ, pos, Result, Ok, Err}
+use Rattle.units.specs.Refusals.{Reply, fault_reply, Test, answer, width_tests, place}
 use Rattle.units.specs.Sides.{side_number}
 use Rattle.units.specs.declared.shapes.Shape.{Shape}
 use Rattle.entry.specs.Errors.{unit, i_of, j_of, low, high, worst, side}
 use Rattle.entry.specs.Fields.{too_wide}
-use Rattle.entry.specs.declared.call.ErrorAnswer.{ErrorAnswer}
-use Rattle.entry.specs.declared.call.ErrorAnswer.TheVariants.{Done, TooWide, Refused}
+use Rattle.units.specs.declared.refusals.Fault.{Fault}
+use Rattle.entry.specs.declared.measure.Errors.{Errors}
 
 -- "gives low, high, worst and side"; with number 5 also n. "Fields that an answer doesn't use are zero, with any number, 0 and 5 too."
 pub record Report : Type 0 where
@@ -21,8 +21,8 @@ abbrev pub refused : Reply → Report
 refused b = record { number = b.number; n = b.n; low = pos 0; high = pos 0; worst = 0; side = 0 }
 
 -- what each case of the answer says in document 01's numbers
-abbrev pub reported : ErrorAnswer → Report
-reported (Done e) =
+abbrev pub reported : Result Errors Fault → Report
+reported (Ok e) =
     record {
       number = 0;
       n = 0;
@@ -31,8 +31,7 @@ reported (Done e) =
       worst = e.worst.0;
       side = side_number e.side;
     }
-reported (TooWide n) = refused (reply 5 n.0)
-reported (Refused r) = refused (reply (refusal_number r) 0)
+reported (Err fault) = refused (fault_reply fault)
 
 -- 1, 2, 4 for n, then 5: "Lookup and entry error look at their one field and name its n"
 abbrev pub place_tests : Shape → ℕ → List Test

@@ -1,38 +1,32 @@
 // The call "Entry error" of document 01.
-ghost use Rattle.std.specs.Prelude.{◌≡◌};
+ghost use Rattle.std.specs.Prelude.{◌≡◌, IfOk};
 ghost use Rattle.units.specs.Refusals.{reply_of, refusal};
 ghost use Rattle.entry.specs.Report.{reported, place_tests, entry_report};
 
 use crate::fields::{entry_of, is_wide};
 use crate::measure::{Errors, errors_of};
-use units::{Interval, Outcome, Refusal, Shape, interval_place, widths};
-
-// What "Entry error" answers.
-#[derive(Clone, Copy)]
-pub enum ErrorAnswer {
-    Done(Errors),
-    TooWide(Interval),
-    Refused(Refusal),
-}
+use crate::places::{Place, PlacedEntry};
+use units::{Fault, GoodShape, Interval, Refusal, Shape, interval_place, widths};
 
 // The tests 1, 2, and 4 for n, for every call that takes an interval.
-pub fn placed(shape: Shape, n: Interval) -> Outcome
-    ensures { reply_of result ≡ refusal (place_tests shape n.0) }
+pub fn placed(shape: Shape, n: Interval) -> Result<Place, Refusal>
+    ensures answer { reply_of result ≡ refusal (place_tests shape n.0) }
+    ensures same { IfOk result (λ place. (place.shape ≡ shape) × (place.n ≡ n)) }
 {
-    widths(shape).then(interval_place(shape.k, n))
+    let _ = widths(shape)?;
+    interval_place(shape.k, n)?;
+    Ok(Place { shape, n })
 }
 
 // "Entry error takes k, m, n, f and gives low, high, worst and side."
-pub fn entry_error(shape: Shape, n: Interval, f: u16) -> ErrorAnswer
+pub fn entry_error(shape: Shape, n: Interval, f: u16) -> Result<Errors, Fault>
     ensures { reported result ≡ entry_report shape n.0 f }
 {
-    match placed(shape, n) {
-        Outcome::Refused(r) => ErrorAnswer::Refused(r),
-        Outcome::Done => {
-            if is_wide(shape, f) {
-                return ErrorAnswer::TooWide(n);
-            }
-            ErrorAnswer::Done(errors_of(shape, n, entry_of(shape, f)))
-        }
+    let place = placed(shape, n)?;
+    let good = GoodShape { shape: place.shape };
+    if is_wide(good, f) {
+        return Err(Fault::TooWide(n));
     }
+    let j = entry_of(good, f);
+    Ok(errors_of(PlacedEntry { shape, n, j }))
 }

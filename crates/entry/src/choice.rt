@@ -1,34 +1,38 @@
 // The best value of an interval.
 ghost use Rattle.std.specs.Prelude.{◌≡◌};
-ghost use Rattle.entry.specs.Inner.Good.{GoodPlace};
 ghost use Rattle.entry.specs.Least.{least_worst};
 ghost use Rattle.entry.specs.Rule.{rule_value, rule_field};
 
 use crate::fields::entry_of;
 use crate::measure::larger_of;
+use crate::places::{Place, PlacedEntry};
 use crate::quotients::quotient_before;
-use units::{Entry, Interval, Shape, Worst};
+use units::{Entry, GoodShape, Worst};
 
-// The field that the builder stores for interval n.
-pub fn best_field(shape: Shape, n: Interval) -> u16
-    requires { GoodPlace shape n.0 }
-    ensures { result ≡ rule_field shape n.0 }
+// The field that the builder stores for an interval.
+pub fn best_field(place: Place) -> u16
+    ensures { result ≡ rule_field place.shape place.n.0 }
 {
-    quotient_before(shape, n).next().field(shape)
+    quotient_before(place)
+        .next()
+        .field(GoodShape { shape: place.shape })
 }
 
-// The builder's value for interval n.
-fn best(shape: Shape, n: Interval) -> Entry
-    requires { GoodPlace shape n.0 }
-    ensures { result.0 ≡ rule_value shape n.0 }
+// The builder's value for it.
+fn best(place: Place) -> Entry
+    ensures { result.0 ≡ rule_value place.shape place.n.0 }
 {
-    entry_of(shape, best_field(shape, n))
+    entry_of(GoodShape { shape: place.shape }, best_field(place))
 }
 
-// The least worst error that any value has over interval n.
-pub fn least(shape: Shape, n: Interval) -> Worst
-    requires { GoodPlace shape n.0 }
-    ensures { result.0 ≡ least_worst shape n.0 }
+// The least worst error that any value has over it.
+pub fn least(place: Place) -> Worst
+    ensures { result.0 ≡ least_worst place.shape place.n.0 }
 {
-    larger_of(shape, n, best(shape, n)).worst
+    larger_of(PlacedEntry {
+        shape: place.shape,
+        n: place.n,
+        j: best(place),
+    })
+    .worst
 }

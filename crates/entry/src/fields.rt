@@ -1,28 +1,26 @@
 // What a field may be, and the value it stands for.
 ghost use Rattle.std.specs.Prelude.{◌≡◌, ◌+◌, ◌^◌, ◌≤◌, leb};
-ghost use Rattle.units.specs.Inner.Good.{GoodWidths};
 ghost use Rattle.entry.specs.Errors.{j_of};
 ghost use Rattle.entry.specs.Fields.{fields_end, is_wide};
 
-use units::{Entry, Shape, small_power};
+use units::{Entry, GoodShape, small_power};
 
 // The fields of a table: the value that field 0 stands for, and the first number that is no field.
 #[derive(Clone, Copy)]
 pub struct Fields {
     pub first: Entry,
     pub end: u32,
+    pub ghost fits: { first.0 ≤ 2 ^ 16 },
 }
 
 // Every test of a field and every value of one is by this one function.
-pub fn fields_of(shape: Shape) -> Fields
-    requires { GoodWidths shape }
-    ensures { (result.first.0 ≡ 2 ^ shape.m) × (result.end ≡ fields_end shape) }
+pub fn fields_of(good: GoodShape) -> Fields
+    ensures { (result.first.0 ≡ 2 ^ good.shape.m) × (result.end ≡ fields_end good.shape) }
 {
-    let size = small_power(shape.m);
-    let kind = shape.kind;
+    let size = small_power(good.shape.m);
     Fields {
         first: Entry(size),
-        end: size + kind.ones(),
+        end: size + good.shape.kind.ones(),
     }
 }
 
@@ -36,26 +34,22 @@ impl Fields {
 
     // The value that f stands for.
     pub fn entry(self, f: u16) -> Entry
-        requires { self.first.0 ≤ 2 ^ 16 }
         ensures { result.0 ≡ self.first.0 + f }
     {
-        let first = self.first;
-        Entry(first.0 + f as u32)
+        Entry(self.first.0 + f as u32)
     }
 }
 
 // Whether f is no field of the shape.
-pub fn is_wide(shape: Shape, f: u16) -> bool
-    requires { GoodWidths shape }
-    ensures { result ≡ is_wide shape f }
+pub fn is_wide(good: GoodShape, f: u16) -> bool
+    ensures { result ≡ is_wide good.shape f }
 {
-    fields_of(shape).is_wide(f)
+    fields_of(good).is_wide(f)
 }
 
 // j = 2^m + f.
-pub fn entry_of(shape: Shape, f: u16) -> Entry
-    requires { GoodWidths shape }
-    ensures { result.0 ≡ j_of shape f }
+pub fn entry_of(good: GoodShape, f: u16) -> Entry
+    ensures { result.0 ≡ j_of good.shape f }
 {
-    fields_of(shape).entry(f)
+    fields_of(good).entry(f)
 }

@@ -7,11 +7,13 @@ mod choice;
 mod fields;
 mod measure;
 mod numbers;
+mod places;
 mod quotients;
 
-pub use call::{ErrorAnswer, entry_error, placed};
+pub use call::{entry_error, placed};
 pub use choice::{best_field, least};
 pub use fields::{entry_of, fields_of, is_wide};
 pub use measure::{Errors, errors_of, larger_of, side_of};
 pub use numbers::{left_end, unit_of};
+pub use places::{Place, PlacedEntry};
 pub use quotients::quotient_before;

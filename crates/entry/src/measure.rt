@@ -1,15 +1,14 @@
 ghost use Rattle.std.specs.Prelude.{◌≡◌, ◌+◌, ◌*◌, ◌≤◌, ◌<◌, ◌^◌, max, pos, ◌-ℤ◌, nat_abs};
-ghost use Rattle.units.specs.Inner.Good.{GoodWidths};
 ghost use Rattle.units.specs.Sides.{side_number};
 ghost use Rattle.entry.specs.Errors.{unit, i_of, low, high, worst, side};
-ghost use Rattle.entry.specs.Inner.Good.{GoodEntry};
 ghost use Rattle.entry.specs.Inner.Products.{low_of, high_of, side_by_middle};
 
-use crate::numbers::{left_end, unit_of};
-use units::{Entry, Error, Interval, Shape, Side, Worst};
+use crate::numbers::{left_number, unit_of};
+use crate::places::{Place, PlacedEntry};
+use units::{Error, GoodShape, Side, Worst};
 
 // "low, high, worst and side" of an entry, in parts of 2^(k+m+1).
-#[derive(Clone, Copy)]
+#[derive(Clone, Copy, Debug, PartialEq, Eq)]
 pub struct Errors {
     pub low: Error,
     pub high: Error,
@@ -42,30 +41,28 @@ fn difference(a: u64, b: u64) -> Error
 }
 
 // One multiplication: (i+1)·j is i·j and j more.
-fn products_of(shape: Shape, n: Interval, j: Entry) -> Products
-    requires { GoodEntry shape n.0 j.0 }
-    ensures { result ≡ record { unit = unit shape; left = i_of shape n.0 * j.0; right = (i_of shape n.0 + 1) * j.0 } }
+fn products_of(entry: PlacedEntry) -> Products
+    ensures { result ≡ record { unit = unit entry.shape; left = i_of entry.shape entry.n.0 * entry.j.0; right = (i_of entry.shape entry.n.0 + 1) * entry.j.0 } }
 {
-    let i = left_end(shape, n).0 as u64;
-    let value = j.0 as u64;
-    let left = i * value;
+    let value = entry.j.0 as u64;
+    let left = left_number(Place {
+        shape: entry.shape,
+        n: entry.n,
+    }) * value;
     let right = left + value;
-    Products {
-        unit: unit_of(shape),
-        left: left,
-        right: right,
-    }
+    let unit = unit_of(GoodShape { shape: entry.shape });
+    Products { unit, left, right }
 }
 
 // The end that has the larger error: the left one where the middle of the products is below the unit.
-pub fn side_of(shape: Shape, middle: u64) -> Side
-    requires { GoodWidths shape }
-    ensures { side_number result ≡ side_by_middle (unit shape) middle }
+pub fn side_of(good: GoodShape, middle: u64) -> Side
+    ensures { side_number result ≡ side_by_middle (unit good.shape) middle }
 {
-    if middle < 2 * unit_of(shape) {
-        return Side::Left;
+    if middle < 2 * unit_of(good) {
+        Side::Left
+    } else {
+        Side::Right
     }
-    Side::Right
 }
 
 impl Products {
@@ -75,42 +72,38 @@ impl Products {
         ensures { (result.worst.0 ≡ max (nat_abs (low_of self)) (nat_abs (high_of self))) × (result.middle ≡ self.left + self.right) }
     {
         let middle = self.left + self.right;
-        if middle < 2 * self.unit {
-            return Larger {
-                worst: Worst(self.unit - self.left),
-                middle: middle,
-            };
-        }
+        let worst = if middle < 2 * self.unit {
+            self.unit - self.left
+        } else {
+            self.right - self.unit
+        };
         Larger {
-            worst: Worst(self.right - self.unit),
-            middle: middle,
+            worst: Worst(worst),
+            middle,
         }
     }
 }
 
 // The larger of the errors of the value j over interval n.
-pub fn larger_of(shape: Shape, n: Interval, j: Entry) -> Larger
-    requires { GoodEntry shape n.0 j.0 }
-    ensures { (result.worst.0 ≡ worst (unit shape) (i_of shape n.0) j.0) × (side_by_middle (unit shape) result.middle ≡ side (unit shape) (i_of shape n.0) j.0) }
+pub fn larger_of(entry: PlacedEntry) -> Larger
+    ensures { (result.worst.0 ≡ worst (unit entry.shape) (i_of entry.shape entry.n.0) entry.j.0) × (side_by_middle (unit entry.shape) result.middle ≡ side (unit entry.shape) (i_of entry.shape entry.n.0) entry.j.0) }
 {
-    products_of(shape, n, j).larger()
+    products_of(entry).larger()
 }
 
 // The errors of the value j over interval n.
-pub fn errors_of(shape: Shape, n: Interval, j: Entry) -> Errors
-    requires { GoodEntry shape n.0 j.0 }
-    ensures low_is { result.low.0 ≡ low (unit shape) (i_of shape n.0) j.0 }
-    ensures high_is { result.high.0 ≡ high (unit shape) (i_of shape n.0) j.0 }
-    ensures worst_is { result.worst.0 ≡ worst (unit shape) (i_of shape n.0) j.0 }
-    ensures side_is { side_number result.side ≡ side (unit shape) (i_of shape n.0) j.0 }
+pub fn errors_of(entry: PlacedEntry) -> Errors
+    ensures low_is { result.low.0 ≡ low (unit entry.shape) (i_of entry.shape entry.n.0) entry.j.0 }
+    ensures high_is { result.high.0 ≡ high (unit entry.shape) (i_of entry.shape entry.n.0) entry.j.0 }
+    ensures worst_is { result.worst.0 ≡ worst (unit entry.shape) (i_of entry.shape entry.n.0) entry.j.0 }
+    ensures side_is { side_number result.side ≡ side (unit entry.shape) (i_of entry.shape entry.n.0) entry.j.0 }
 {
-    let e = products_of(shape, n, j);
+    let e = products_of(entry);
     let larger = e.larger();
-    let worst = larger.worst;
     Errors {
         low: difference(e.unit, e.right),
         high: difference(e.unit, e.left),
-        worst: worst,
-        side: side_of(shape, larger.middle),
+        worst: larger.worst,
+        side: side_of(GoodShape { shape: entry.shape }, larger.middle),
     }
 }

@@ -1,31 +1,27 @@
 // The numbers that document 01 makes of a shape and an index.
 ghost use Rattle.std.specs.Prelude.{◌≡◌};
-ghost use Rattle.units.specs.Inner.Good.{GoodWidths};
 ghost use Rattle.entry.specs.Errors.{unit, i_of};
-ghost use Rattle.entry.specs.Inner.Good.{GoodPlace};
 
-use units::{Interval, LeftEnd, Shape, power};
+use crate::places::Place;
+use units::{GoodShape, LeftEnd, power};
 
 // 2^P, in whose parts errors are counted.
-pub fn unit_of(shape: Shape) -> u64
-    requires { GoodWidths shape }
-    ensures { result ≡ unit shape }
+pub fn unit_of(good: GoodShape) -> u64
+    ensures { result ≡ unit good.shape }
 {
-    power(shape.k + shape.m + 1)
+    power(good.shape.k + good.shape.m + 1)
 }
 
 // i = 2^k + n, in the 64 bits that its products want.
-pub fn left_number(shape: Shape, n: Interval) -> u64
-    requires { GoodPlace shape n.0 }
-    ensures { result ≡ i_of shape n.0 }
+pub fn left_number(place: Place) -> u64
+    ensures { result ≡ i_of place.shape place.n.0 }
 {
-    power(shape.k) + n.0 as u64
+    power(place.shape.k) + place.n.0 as u64
 }
 
 // The same as a `LeftEnd`.
-pub fn left_end(shape: Shape, n: Interval) -> LeftEnd
-    requires { GoodPlace shape n.0 }
-    ensures { result.0 ≡ i_of shape n.0 }
+pub fn left_end(place: Place) -> LeftEnd
+    ensures { result.0 ≡ i_of place.shape place.n.0 }
 {
-    LeftEnd(left_number(shape, n) as u32)
+    LeftEnd(left_number(place) as u32)
 }

@@ -1,13 +1,12 @@
 // The builder's rule as a division.
 ghost use Rattle.std.specs.Prelude.{◌≡◌, ◌+◌, ◌-◌, ◌/◌, ◌^◌, ◌≤◌, ◌<◌, min};
-ghost use Rattle.units.specs.Inner.Good.{GoodWidths};
 ghost use Rattle.entry.specs.Fields.{fields_end};
-ghost use Rattle.entry.specs.Inner.Good.{GoodPlace};
 ghost use Rattle.entry.specs.Inner.Quotient.{Before, slack, meets};
 
 use crate::fields::fields_of;
 use crate::numbers::left_number;
-use units::{Interval, Shape, power};
+use crate::places::Place;
+use units::{GoodShape, power};
 
 // Two numbers below 2^32, and how far the first falls and the second rises from one interval to the
 // next. At interval n, with i = 2^k + n, they are
@@ -26,15 +25,14 @@ pub struct Quotient {
 
 // At the interval before n, so that `next` comes to n: the builder moves on before each cell, and never
 // past the last interval, where over could fall below 0.
-pub fn quotient_before(shape: Shape, n: Interval) -> Quotient
-    requires { GoodPlace shape n.0 }
-    ensures { Before shape n.0 result }
+pub fn quotient_before(place: Place) -> Quotient
+    ensures { Before place.shape place.n.0 result }
 {
-    let i = left_number(shape, n);
+    let i = left_number(place);
     let by = 2 * i - 1;
-    let size = power(shape.m);
+    let size = power(place.shape.m);
     Quotient {
-        over: ((4 * power(shape.k) - by) * size + i - 1) as u32,
+        over: ((4 * power(place.shape.k) - by) * size + i - 1) as u32,
         by: by as u32,
         fall: (2 * size - 1) as u32,
         rise: 2,
@@ -42,15 +40,11 @@ pub fn quotient_before(shape: Shape, n: Interval) -> Quotient
 }
 
 // The quotient as a field, but never above the last field.
-fn capped(shape: Shape, quotient: u32) -> u16
-    requires { GoodWidths shape }
-    ensures { result ≡ min quotient (fields_end shape - 1) }
+#[tactic(auto, using(crate::proofs::Laws::Fields::fields_end_positive, crate::proofs::Laws::Fields::fields_end_bound))]
+fn capped(good: GoodShape, quotient: u32) -> u16
+    ensures { result ≡ min quotient (fields_end good.shape - 1) }
 {
-    let end = fields_of(shape).end;
-    if quotient < end {
-        return quotient as u16;
-    }
-    (end - 1) as u16
+    quotient.min(fields_of(good).end - 1) as u16
 }
 
 impl Quotient {
@@ -68,37 +62,30 @@ impl Quotient {
     }
 
     // The field: the quotient, but never above the last field. One division, of 32 bits.
-    pub fn field(self, shape: Shape) -> u16
-        requires { (GoodWidths shape) × (0 < self.by) }
-        ensures { result ≡ min (self.over / self.by) (fields_end shape - 1) }
+    pub fn field(self, good: GoodShape) -> u16
+        requires { 0 < self.by }
+        ensures { result ≡ min (self.over / self.by) (fields_end good.shape - 1) }
     {
-        capped(shape, self.over / self.by)
+        capped(good, self.over / self.by)
     }
 
     // The same, where by is told as one more than 2i: of a divisor that the compiler sees to be odd it does
     // not test whether it is zero (docs/BENCHMARKS.md).
-    pub fn field_past(self, shape: Shape, even: u32) -> u16
-        requires { (GoodWidths shape) × ((even < 2 ^ 31) × (self.by ≡ even + 1)) }
-        ensures { result ≡ min (self.over / self.by) (fields_end shape - 1) }
+    pub fn field_past(self, good: GoodShape, even: u32) -> u16
+        requires { (even < 2 ^ 31) × (self.by ≡ even + 1) }
+        ensures { result ≡ min (self.over / self.by) (fields_end good.shape - 1) }
     {
-        capped(shape, self.over / (even + 1))
+        capped(good, self.over / (even + 1))
     }
 
     // Whether f is best: the division, multiplied back. One product and no division. Where nothing is left
     // over, the field below the quotient is as good.
-    pub fn is_best(self, shape: Shape, f: u16) -> bool
-        requires { GoodWidths shape }
-        ensures { result ≡ meets self.over self.by (slack shape) (fields_end shape) f }
+    pub fn is_best(self, good: GoodShape, f: u16) -> bool
+        ensures { result ≡ meets self.over self.by (slack good.shape) (fields_end good.shape) f }
     {
         let over = self.over as u64;
         let by = self.by as u64;
         let product = by * f as u64;
-        if over < product {
-            return false;
-        }
-        if f as u32 + 1 == fields_of(shape).end {
-            return true;
-        }
-        over < product + by + 1
+        product <= over && (f as u32 + 1 == fields_of(good).end || over < product + by + 1)
     }
 }

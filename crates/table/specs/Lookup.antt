@@ -1,12 +1,12 @@
 -- The answer of "Look up". Document 02, L1; document 01, "The calls" and "Refusal numbers and their order". Assumes nothing.
-use Rattle.std.specs.Prelude.{ℕ, ◌-◌, ◌/◌, ◌^◌, List, [], ◌∷◌, ◌++◌, length, get_or}
-use Rattle.units.specs.Refusals.{Reply, reply, Test, answer, refusal_number, table_tests, divisor}
+use Rattle.std.specs.Prelude.{ℕ, ◌-◌, ◌/◌, ◌^◌, List, [], ◌∷◌, ◌++◌, length, get_or, Result, Ok, Err}
+use Rattle.units.specs.Refusals.{Reply, fault_reply, Test, answer, table_tests, divisor}
 use Rattle.units.specs.declared.shapes.Shape.{Shape}
 use Rattle.entry.specs.Errors.{j_of}
 use Rattle.entry.specs.Fields.{too_wide}
 use Rattle.table.specs.Shift.{shift_of, shifted}
-use Rattle.table.specs.declared.lookups.LookupAnswer.{LookupAnswer}
-use Rattle.table.specs.declared.lookups.LookupAnswer.TheVariants.{Found, TooWide, Refused}
+use Rattle.units.specs.declared.refusals.Fault.{Fault}
+use Rattle.table.specs.declared.lookups.Found.{Found}
 
 -- "give s with n and j". "Fields that an answer doesn't use are zero."
 pub record Report : Type 0 where
@@ -22,10 +22,9 @@ abbrev pub looked_up : ℕ → ℕ → ℕ → Report
 looked_up s n j = record { number = 0; s = s; n = n; j = j }
 
 -- what each case of the answer says in document 01's numbers
-abbrev pub reported : LookupAnswer → Report
-reported (Found s n j) = looked_up s.0 n.0 j.0
-reported (TooWide n) = refused (reply 5 n.0)
-reported (Refused r) = refused (reply (refusal_number r) 0)
+abbrev pub reported : Result Found Fault → Report
+reported (Ok found) = looked_up found.s.0 found.n.0 found.j.0
+reported (Err fault) = refused (fault_reply fault)
 
 -- "The index is floor(X/2^(15-k)) - 2^k", for an X from 32768 to 65535. Nothing is cut off at 0 there, and a cell of the table is
 -- named: laws `quotient_from`, `index_below`

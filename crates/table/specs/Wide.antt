@@ -1,12 +1,11 @@
 -- Number 5 over a list of fields: "number and the smallest such n". Document 01, "Refusal numbers and their order".
 -- Assumes nothing.
-use Rattle.std.specs.Prelude.{ℕ, ◌^◌, Bool, List, [], ◌∷◌, ◌++◌, length, take}
-use Rattle.units.specs.Refusals.{Reply, reply, Test, test, refusal_number, table_tests}
+use Rattle.std.specs.Prelude.{ℕ, ◌^◌, Bool, List, [], ◌∷◌, ◌++◌, length, take, Result, Ok, Err}
+use Rattle.units.specs.Refusals.{Reply, reply, fault_reply, Test, test, table_tests}
 use Rattle.units.specs.declared.shapes.Shape.{Shape}
 use Rattle.entry.specs.Fields.{is_wide}
 use Rattle.table.specs.First.{any_of, first_of}
-use Rattle.table.specs.declared.fields.FieldsOutcome.{FieldsOutcome}
-use Rattle.table.specs.declared.fields.FieldsOutcome.TheVariants.{Done, TooWide, Refused}
+use Rattle.units.specs.declared.refusals.Fault.{Fault}
 
 -- whether one of the fields is over-wide
 abbrev pub any_wide : Shape → List ℕ → Bool
@@ -24,7 +23,6 @@ abbrev pub field_tests : Shape → List ℕ → List Test
 field_tests s cells = table_tests s (length cells) ++ (wide_among s 0 (take (2 ^ s.k) cells) ∷ [])
 
 -- what the tests end in: "done", 5 with its n, or a number only
-abbrev pub fields_reply : FieldsOutcome → Reply
-fields_reply Done = reply 0 0
-fields_reply (TooWide n) = reply 5 n.0
-fields_reply (Refused r) = reply (refusal_number r) 0
+abbrev pub fields_reply : {A : Type 0} → Result A Fault → Reply
+fields_reply (Ok _) = reply 0 0
+fields_reply (Err fault) = fault_reply fault

@@ -5,63 +5,45 @@ ghost use Rattle.table.specs.Inner.Good.{GoodBank};
 ghost use Rattle.table.specs.Inner.Located.{located, bank_located};
 ghost use Rattle.table.specs.Banks.{bank_size, bank_start, bank_name, bank_place, named_tests};
 
-use units::{Outcome, Refusal, Shape, bank_height, bank_number, few_cells, power, widths};
-
-// The cells from first up to end, which is not among them.
-#[derive(Clone, Copy)]
-pub struct Stretch {
-    pub first: usize,
-    pub end: usize,
-}
-
-// Where a bank lies, or why there is none.
-#[derive(Clone, Copy)]
-pub enum BankAnswer {
-    At(Stretch),
-    Refused(Refusal),
-}
+use std::ops::Range;
+use units::{Refusal, Shape, bank_height, bank_number, few_cells, power, widths};
 
 // "bank b (0 to 2^h - 1) is the 2^(k-h) entries from b·2^(k-h) on"
-pub(crate) fn bank_at(k: u32, h: u32, b: u32) -> Stretch
+pub(crate) fn bank_at(k: u32, h: u32, b: u32) -> Range<usize>
     requires { GoodBank k h b }
-    ensures { (result.first ≡ bank_start k h b) × (result.end ≡ bank_start k h b + bank_size k h) }
+    ensures { (result.start ≡ bank_start k h b) × (result.end ≡ bank_start k h b + bank_size k h) }
 {
     let size = power(k - h) as usize;
-    let first = b as usize * size;
-    Stretch {
-        first: first,
-        end: first + size,
-    }
+    let start = b as usize * size;
+    start..start + size
 }
 
 // The tests 4 for h and b.
-fn bank_named(k: u32, h: u32, b: u32) -> Outcome
+fn bank_named(k: u32, h: u32, b: u32) -> Result<(), Refusal>
     ensures { reply_of result ≡ refusal (bank_name k h b) }
 {
-    bank_height(k, h).then(bank_number(h, b))
+    bank_height(k, h).and(bank_number(h, b))
 }
 
 // The same, and 3, for every call that takes a bank of a lent table.
-pub(crate) fn bank_in_table(k: u32, h: u32, b: u32, lent: usize) -> Outcome
+pub(crate) fn bank_in_table(k: u32, h: u32, b: u32, lent: usize) -> Result<(), Refusal>
     ensures { reply_of result ≡ refusal (bank_place k h b lent) }
 {
-    bank_named(k, h, b).then(few_cells(lent, k))
+    bank_named(k, h, b).and(few_cells(lent, k))
 }
 
 // The tests 1, 2, and 4 for h and b.
-fn namable(shape: Shape, h: u32, b: u32) -> Outcome
+fn namable(shape: Shape, h: u32, b: u32) -> Result<(), Refusal>
     ensures { reply_of result ≡ refusal (named_tests shape h b) }
 {
-    widths(shape).then(bank_named(shape.k, h, b))
+    widths(shape).and(bank_named(shape.k, h, b))
 }
 
 // Where bank b of 2^h lies in its table, after the same tests. It is lent no cell, so it does not ask
 // for 3.
-pub fn named_bank(shape: Shape, h: u32, b: u32) -> BankAnswer
+pub fn named_bank(shape: Shape, h: u32, b: u32) -> Result<Range<usize>, Refusal>
     ensures { located result ≡ bank_located shape h b }
 {
-    match namable(shape, h, b) {
-        Outcome::Refused(r) => BankAnswer::Refused(r),
-        Outcome::Done => BankAnswer::At(bank_at(shape.k, h, b)),
-    }
+    namable(shape, h, b)?;
+    Ok(bank_at(shape.k, h, b))
 }

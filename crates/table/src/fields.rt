@@ -1,73 +1,45 @@
 // The tests of a table's fields: 5, looked for in the whole lent table, after 1, 2 and 3.
-ghost use Rattle.std.specs.Prelude.{◌≡◌, true, [], ◌∷◌, ◌≤◌, ◌^◌, max, length};
-ghost use Rattle.units.specs.Inner.Good.{GoodWidths};
+ghost use Rattle.std.specs.Prelude.{◌≡◌, [], ◌∷◌, ◌≤◌, ◌^◌, IfOk, length};
 ghost use Rattle.units.specs.Refusals.{refusal};
 ghost use Rattle.table.specs.Inner.Largest.{largest_of};
-ghost use Rattle.table.specs.Wide.{any_wide, first_wide, wide_among, fields_reply, field_tests};
+ghost use Rattle.table.specs.Wide.{wide_among, fields_reply, field_tests};
 
 use entry::is_wide;
-use units::{Interval, Outcome, Refusal, Shape, power, whole_table};
-
-// What the tests of a table and its fields end in.
-#[derive(Clone, Copy)]
-pub enum FieldsOutcome {
-    Done,
-    TooWide(Interval),
-    Refused(Refusal),
-}
-
-fn larger_field(a: u16, b: u16) -> u16
-    ensures { result ≡ max a b }
-{
-    if a < b { b } else { a }
-}
+use units::{Fault, GoodShape, Interval, Shape, power, whole_table};
 
 // The largest of some fields, or 0 of none.
 fn largest(cells: &[u16]) -> u16
     ensures { result ≡ largest_of cells.now }
 {
-    let mut most: u16 = 0;
-    let mut at: usize = 0;
-    while at < cells.len() {
-        most = larger_field(most, cells[at]);
-        at += 1;
+    let mut most = 0;
+    for &f in cells {
+        most = f.max(most);
     }
     most
 }
 
-// The smallest n whose field is over-wide, where one is.
-fn first_wide(shape: Shape, cells: &[u16]) -> Interval
-    requires good_widths { (GoodWidths shape) × (length cells.now ≤ 2 ^ 15) }
-    requires cells_value { any_wide shape cells.now ≡ true }
-    ensures { result.0 ≡ first_wide shape 0 cells.now }
-{
-    let mut at: usize = 0;
-    while !is_wide(shape, cells[at]) {
-        at += 1;
-    }
-    Interval(at as u32)
-}
-
 // 5: "number and the smallest such n". The largest field alone says whether there is one.
-fn wide_among(shape: Shape, cells: &[u16]) -> FieldsOutcome
-    requires { (GoodWidths shape) × (length cells.now ≤ 2 ^ shape.k) }
-    ensures { fields_reply result ≡ refusal (wide_among shape 0 cells.now ∷ []) }
+fn wide_among(good: GoodShape, cells: &[u16]) -> Result<(), Fault>
+    requires { length cells.now ≤ 2 ^ good.shape.k }
+    ensures { fields_reply result ≡ refusal (wide_among good.shape 0 cells.now ∷ []) }
 {
-    if is_wide(shape, largest(cells)) {
-        return FieldsOutcome::TooWide(first_wide(shape, cells));
+    if is_wide(good, largest(cells)) {
+        for (n, &f) in cells.iter().enumerate() {
+            if is_wide(good, f) {
+                return Err(Fault::TooWide(Interval(n as u32)));
+            }
+        }
     }
-    FieldsOutcome::Done
+    Ok(())
 }
 
 // 1, 2, 3, 5: "look for 5 in the whole lent table first".
-pub fn whole_fields(shape: Shape, table: &[u16]) -> FieldsOutcome
-    ensures { fields_reply result ≡ refusal (field_tests shape table.now) }
+pub fn whole_fields(shape: Shape, table: &[u16]) -> Result<GoodShape, Fault>
+    ensures answer { fields_reply result ≡ refusal (field_tests shape table.now) }
+    ensures same { IfOk result (λ good. good.shape ≡ shape) }
 {
-    match whole_table(shape, table.len()) {
-        Outcome::Refused(r) => FieldsOutcome::Refused(r),
-        Outcome::Done => {
-            let size = power(shape.k) as usize;
-            wide_among(shape, &table[0..size])
-        }
-    }
+    let good = whole_table(shape, table.len())?;
+    let size = power(shape.k) as usize;
+    wide_among(good, &table[..size])?;
+    Ok(good)
 }

@@ -8,8 +8,8 @@ mod fields;
 mod lookups;
 mod views;
 
-pub use banks::{BankAnswer, Stretch, named_bank};
+pub use banks::named_bank;
 pub use builders::{build, build_bank};
-pub use fields::{FieldsOutcome, whole_fields};
-pub use lookups::{LookupAnswer, look_up};
+pub use fields::whole_fields;
+pub use lookups::{Found, look_up};
 pub use views::{show_bank, show_bank_number};

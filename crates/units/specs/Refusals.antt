@@ -1,10 +1,10 @@
 -- Document 01, "Refusal numbers and their order", and the numbers of document 02. Assumes nothing.
-use Rattle.std.specs.Prelude.{ℕ, ◌^◌, Bool, ◌||◌, cond, List, [], ◌∷◌, ◌++◌, ltb, leb, eqb}
+use Rattle.std.specs.Prelude.{ℕ, ◌^◌, Bool, ◌||◌, cond, List, [], ◌∷◌, ◌++◌, ltb, leb, eqb, Result, Ok, Err}
 use Rattle.units.specs.declared.refusals.Refusal.{Refusal}
 use Rattle.units.specs.declared.refusals.Refusal.TheVariants.{InputWidth, OutputWidth, FewCells, Place, Divisor, Line, ShortText}
+use Rattle.units.specs.declared.refusals.Fault.{Fault}
+use Rattle.units.specs.declared.refusals.Fault.TheVariants.{TooWide, Refused}
 use Rattle.units.specs.declared.shapes.Shape.{Shape}
-use Rattle.units.specs.declared.refusals.Outcome.{Outcome}
-use Rattle.units.specs.declared.refusals.Outcome.TheVariants.{Done, Refused}
 
 -- The column "No."
 abbrev pub refusal_number : Refusal → ℕ
@@ -26,9 +26,14 @@ abbrev pub reply : ℕ → ℕ → Reply
 reply number n = record { number = number; n = n }
 
 -- "0 | done", or a number only
-abbrev pub reply_of : Outcome → Reply
-reply_of Done = reply 0 0
-reply_of (Refused r) = reply (refusal_number r) 0
+abbrev pub reply_of : {A : Type 0} → Result A Refusal → Reply
+reply_of (Ok _) = reply 0 0
+reply_of (Err r) = reply (refusal_number r) 0
+
+-- and with number 5, the n of the field
+abbrev pub fault_reply : Fault → Reply
+fault_reply (TooWide n) = reply 5 n.0
+fault_reply (Refused r) = reply (refusal_number r) 0
 
 -- One test of a call: whether its reason holds (the column "When"), and what then comes back
 pub record Test : Type 0 where

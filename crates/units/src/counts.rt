@@ -7,38 +7,38 @@ ghost use Rattle.units.specs.Sides.{side_number};
 // units".)
 
 // The number n of an interval, from 0 to 2^k - 1.
-#[derive(Clone, Copy)]
+#[derive(Clone, Copy, Debug, PartialEq, Eq, PartialOrd, Ord)]
 pub struct Interval(pub u32);
 
 // The left end i = 2^k + n of an interval, which is at i/2^k.
-#[derive(Clone, Copy)]
+#[derive(Clone, Copy, Debug, PartialEq, Eq, PartialOrd, Ord)]
 pub struct LeftEnd(pub u32);
 
 // The number j of an entry, which stands for j/2^(m+1).
-#[derive(Clone, Copy)]
+#[derive(Clone, Copy, Debug, PartialEq, Eq, PartialOrd, Ord)]
 pub struct Entry(pub u32);
 
 // The number s of places by which a divisor X is shifted to X·2^s.
-#[derive(Clone, Copy)]
+#[derive(Clone, Copy, Debug, PartialEq, Eq, PartialOrd, Ord)]
 pub struct Shift(pub u32);
 
 // The offset of a byte in a text, which counts bytes from 0. A text's length is the offset of its end.
-#[derive(Clone, Copy)]
+#[derive(Clone, Copy, Debug, PartialEq, Eq, PartialOrd, Ord)]
 pub struct Offset(pub usize);
 
 // An error at one end of an interval, in parts of 2^(k+m+1). It has a sign.
-#[derive(Clone, Copy)]
+#[derive(Clone, Copy, Debug, PartialEq, Eq, PartialOrd, Ord)]
 pub struct Error(pub i64);
 
 // The size of an error, in parts of 2^(k+m+1).
-#[derive(Clone, Copy)]
+#[derive(Clone, Copy, Debug, PartialEq, Eq, PartialOrd, Ord)]
 pub struct Worst(pub u64);
 
 // The end of the interval at which an entry's error is larger in size.
-#[derive(Clone, Copy)]
+#[derive(Clone, Copy, Debug, PartialEq, Eq)]
 pub enum Side {
-    Left,
-    Right,
+    Left = 0,
+    Right = 1,
 }
 
 impl Error {
@@ -53,11 +53,7 @@ impl Error {
     pub fn size(self) -> Worst
         ensures { result.0 ≡ nat_abs self.0 }
     {
-        let e = self.0;
-        if e < 0 {
-            return Worst((-(e + 1)) as u64 + 1);
-        }
-        Worst(e as u64)
+        Worst(self.0.unsigned_abs())
     }
 }
 
@@ -66,9 +62,6 @@ impl Side {
     pub fn number(self) -> u32
         ensures { result ≡ side_number self }
     {
-        match self {
-            Side::Left => 0,
-            Side::Right => 1,
-        }
+        self as u32
     }
 }

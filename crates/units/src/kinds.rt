@@ -2,7 +2,7 @@ ghost use Rattle.std.specs.Prelude.{◌≡◌};
 ghost use Rattle.units.specs.Kinds.{ones};
 
 // "Tables get a kind, "plain" or "with one"." (Document 02, L5.) What a kind is stands in specs/Kinds.antt.
-#[derive(Clone, Copy)]
+#[derive(Clone, Copy, Debug, PartialEq, Eq)]
 pub enum Kind {
     Plain,
     WithOne,

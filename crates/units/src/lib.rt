@@ -3,16 +3,18 @@
 #![tactic(auto)]
 
 mod counts;
+mod good;
 mod kinds;
 mod powers;
 mod refusals;
 mod shapes;
 
 pub use counts::{Entry, Error, Interval, LeftEnd, Offset, Shift, Side, Worst};
+pub use good::GoodShape;
 pub use kinds::Kind;
 pub use powers::{power, small_power};
 pub use refusals::{
-    Outcome, Refusal, bank_height, bank_number, divisor_range, few_cells, input_width,
-    interval_place, whole_table, widths,
+    Fault, Refusal, bank_height, bank_number, divisor_range, few_cells, input_width,
+    interval_place, number_of, whole_table, widths,
 };
 pub use shapes::Shape;

@@ -5,7 +5,7 @@ use crate::kinds::Kind;
 
 // What a card claims of its table: k bits of a divisor in, m bits of its reciprocal out, and its kind.
 // Any numbers can stand here; every call tests them.
-#[derive(Clone, Copy)]
+#[derive(Clone, Copy, Debug, PartialEq, Eq)]
 pub struct Shape {
     pub k: u32,
     pub m: u32,
@@ -17,10 +17,6 @@ impl Shape {
     pub fn of(k: u32, m: u32, kind: Kind) -> Shape
         ensures { result ≡ shape k m kind }
     {
-        Shape {
-            k: k,
-            m: m,
-            kind: kind,
-        }
+        Shape { k, m, kind }
     }
 }

@@ -2,11 +2,11 @@
 -- Assumes nothing.
 use mathlib.Core.Path.{◌≡◌, refl, ap}
 use Rattle.units.specs.declared.counts.Side.{Side}
-use Rattle.units.proofs.Laws.OneToOne.{one_to_one, side_of, side_reads, by_number, refused_reads}
+use Rattle.units.proofs.Laws.OneToOne.{one_to_one, side_of, side_reads, by_fault, fault_reads}
 use Rattle.entry.specs.Report.{Report, refused, reported, entry_tests, entry_report}
 use Rattle.entry.specs.declared.measure.Errors.{Errors}
-use Rattle.entry.specs.declared.call.ErrorAnswer.{ErrorAnswer}
-use Rattle.entry.specs.declared.call.ErrorAnswer.TheVariants.{Done, TooWide, Refused}
+use Rattle.std.specs.Prelude.{Result, Ok, Err}
+use Rattle.units.specs.declared.refusals.Fault.{Fault}
 use Prim.Native.Nat.{ℕ, ◌<◌}
 use native.Mathlib.Omega.{arith}
 use lib.IntN.{pos}
@@ -17,16 +17,15 @@ errors_of : Report → Side → Errors
 errors_of r s =
     record { low = record { 0 = r.low }; high = record { 0 = r.high }; worst = record { 0 = r.worst }; side = s }
 
-answer_of : Report → ErrorAnswer
-answer_of r = by_number r.number (Done (errors_of r (side_of r.side))) (TooWide (record { 0 = r.n })) Refused
+answer_of : Report → Result Errors Fault
+answer_of r = by_fault r.number r.n (Ok (errors_of r (side_of r.side))) (λ (fault : Fault). Err fault)
 
-reads : (a : ErrorAnswer) → answer_of (reported a) ≡ a
+reads : (a : Result Errors Fault) → answer_of (reported a) ≡ a
 unfolding answer_of errors_of
-reads (Done e) = ap (λ (s : Side). Done (errors_of (reported (Done e)) s)) (side_reads e.side)
-reads (TooWide n) = refl
-reads (Refused r) = refused_reads r _ _ Refused
+reads (Ok e) = ap (λ (s : Side). Ok (errors_of (reported (Ok e)) s)) (side_reads e.side)
+reads (Err fault) = fault_reads fault _ (λ (fault : Fault). Err fault)
 
-pub reported_one_to_one : (a b : ErrorAnswer) → reported a ≡ reported b → a ≡ b
+pub reported_one_to_one : (a b : Result Errors Fault) → reported a ≡ reported b → a ≡ b
 reported_one_to_one = one_to_one reported answer_of reads
 
 -- "Fields that an answer doesn't use are zero, with any number, 0 and 5 too."

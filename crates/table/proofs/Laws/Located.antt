@@ -10,24 +10,22 @@ use Rattle.units.proofs.Laws.Tests.{answer_maps, done_by, refused_by, refusal_nu
 use Rattle.table.specs.Banks.{bank_size, bank_start, named_tests}
 use Rattle.table.specs.Inner.Good.{GoodNamed}
 use Rattle.table.specs.Inner.Located.{Located, unlocated, located, bank_located}
-use Rattle.table.specs.declared.banks.BankAnswer.{BankAnswer}
-use Rattle.table.specs.declared.banks.BankAnswer.TheVariants.{At, Refused}
-use Rattle.table.specs.declared.banks.Stretch.{Stretch}
+use Rattle.std.specs.Prelude.{Ok, Err}
+use Rattle.std.specs.declared.ops.Range.{Range}
 use Rattle.table.proofs.Laws.Banks.{Within, good_bank_within}
 use Rattle.table.proofs.Laws.Good.{named_good}
 
 -- a stretch is that of bank b of 2^h, which lies within the table
-pub record IsBank (s : Shape) (h b : ℕ) (place : Stretch) : Type 0 where
+pub record IsBank (s : Shape) (h b : ℕ) (place : Range ℕ) : Type 0 where
   pub named : GoodNamed s h b
-  pub first_is : place.first ≡ bank_start s.k h b
+  pub first_is : place.start ≡ bank_start s.k h b
   pub end_is : place.end ≡ bank_start s.k h b + bank_size s.k h
-  pub size_is : place.end - place.first ≡ bank_size s.k h
-  pub ends : Within s.k place.first place.end
+  pub size_is : place.end - place.start ≡ bank_size s.k h
+  pub ends : Within s.k place.start place.end
 
-module _ (s : Shape) (h b : ℕ) {a : BankAnswer} (answers : located a ≡ bank_located s h b) where
-  pub at_is_bank : (place : Stretch) → a ≡ At place → IsBank s h b place
-  at_is_bank place e =
-      let is : located (At place) ≡ bank_located s h b = sym (ap located e) ∙ answers in
+module _ (s : Shape) (h b : ℕ) where
+  pub at_is_bank : (place : Range ℕ) → located (Ok place) ≡ bank_located s h b → IsBank s h b place
+  at_is_bank place is =
       let passed =
       zero_passed (λ (l : Located). l.number) unlocated _ (named_tests s h b) (omega arith) (λ r. refl) refl (sym (ap (λ (l : Located). l.number) is)) in
       let at = is ∙ sym (done_by unlocated _ (named_tests s h b) passed) in
@@ -43,11 +41,11 @@ module _ (s : Shape) (h b : ℕ) {a : BankAnswer} (answers : located a ≡ bank_
       }
 
   -- a refusal is that of the tests
-  pub not_named : {A : Type 0} (refuse : Reply → A) (done : A) (rest : List Test) (r : Refusal) → a ≡ Refused r
+  pub not_named : {A : Type 0} (refuse : Reply → A) (done : A) (rest : List Test) (r : Refusal) → located (Err r) ≡ bank_located s h b
       → refuse (reply (refusal_number r) 0) ≡ answer refuse done (named_tests s h b ++ rest)
   unfolding answer
   not_named refuse done rest r e =
       let number : Located → Reply = λ l. reply l.number 0 in
       let is : reply (refusal_number r) 0 ≡ refusal (named_tests s h b) =
-      ap number (sym (ap located e) ∙ answers) ∙ answer_maps number unlocated _ (named_tests s h b) in
+      ap number e ∙ answer_maps number unlocated _ (named_tests s h b) in
       refused_by refuse done (named_tests s h b) rest is (refusal_numbered r)

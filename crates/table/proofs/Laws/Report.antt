@@ -2,26 +2,28 @@
 -- Assumes nothing.
 use Prim.Native.Nat.{ℕ, ◌<◌}
 use mathlib.Core.List.{List}
+use Rattle.std.specs.Prelude.{Result, Ok, Err}
+use Rattle.units.specs.declared.refusals.Fault.{Fault}
 use mathlib.Core.Path.{◌≡◌, refl}
 use native.Mathlib.Omega.{arith}
 use Rattle.units.specs.declared.shapes.Shape.{Shape}
-use Rattle.units.proofs.Laws.OneToOne.{one_to_one, by_number, refused_reads}
+use Rattle.units.proofs.Laws.OneToOne.{one_to_one, by_fault, fault_reads}
 use Rattle.units.proofs.Laws.Tests.{answer_has}
 use Rattle.table.specs.Lookup.{Report, refused, reported, index_of, lookup_tests, lookup_report}
 use Rattle.table.specs.Shift.{shifted}
-use Rattle.table.specs.declared.lookups.LookupAnswer.{LookupAnswer}
-use Rattle.table.specs.declared.lookups.LookupAnswer.TheVariants.{Found, TooWide, Refused}
+use Rattle.table.specs.declared.lookups.Found.{Found}
 
-answer_of : Report → LookupAnswer
-answer_of r = by_number r.number (Found (record { 0 = r.s }) (record { 0 = r.n }) (record { 0 = r.j })) (TooWide (record { 0 = r.n })) Refused
+answer_of : Report → Result Found Fault
+answer_of r =
+    by_fault r.number r.n (Ok (record { s = record { 0 = r.s }; n = record { 0 = r.n }; j = record { 0 = r.j } }))
+    (λ (fault : Fault). Err fault)
 
-reads : (a : LookupAnswer) → answer_of (reported a) ≡ a
+reads : (a : Result Found Fault) → answer_of (reported a) ≡ a
 unfolding answer_of
-reads (Found s n j) = refl
-reads (TooWide n) = refl
-reads (Refused r) = refused_reads r _ _ Refused
+reads (Ok found) = refl
+reads (Err fault) = fault_reads fault _ (λ (fault : Fault). Err fault)
 
-pub reported_one_to_one : (a b : LookupAnswer) → reported a ≡ reported b → a ≡ b
+pub reported_one_to_one : (a b : Result Found Fault) → reported a ≡ reported b → a ≡ b
 reported_one_to_one = one_to_one reported answer_of reads
 
 -- "Fields that an answer doesn't use are zero, with any number, 0 and 5 too."

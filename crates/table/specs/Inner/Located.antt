@@ -1,10 +1,10 @@
 -- Where a bank lies, as `named_bank` answers it. Assumes nothing.
-use Rattle.std.specs.Prelude.{ℕ, ◌+◌}
+use Rattle.std.specs.Prelude.{ℕ, ◌+◌, Result, Ok, Err}
 use Rattle.units.specs.Refusals.{Reply, reply, answer, refusal_number}
 use Rattle.units.specs.declared.shapes.Shape.{Shape}
 use Rattle.table.specs.Banks.{bank_size, bank_start, named_tests}
-use Rattle.table.specs.declared.banks.BankAnswer.{BankAnswer}
-use Rattle.table.specs.declared.banks.BankAnswer.TheVariants.{At, Refused}
+use Rattle.std.specs.declared.ops.Range.{Range}
+use Rattle.units.specs.declared.refusals.Refusal.{Refusal}
 
 -- its first cell and the one after its last
 pub record Located : Type 0 where
@@ -15,9 +15,9 @@ pub record Located : Type 0 where
 abbrev pub unlocated : Reply → Located
 unlocated b = record { number = b.number; first = 0; end = 0 }
 
-abbrev pub located : BankAnswer → Located
-located (At place) = record { number = 0; first = place.first; end = place.end }
-located (Refused r) = unlocated (reply (refusal_number r) 0)
+abbrev pub located : Result (Range ℕ) Refusal → Located
+located (Ok place) = record { number = 0; first = place.start; end = place.end }
+located (Err r) = unlocated (reply (refusal_number r) 0)
 
 abbrev pub bank_located : Shape → ℕ → ℕ → Located
 bank_located s h b =

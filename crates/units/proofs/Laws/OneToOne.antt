@@ -1,15 +1,16 @@
 -- A case of an answer is known by document 01's number for it: so an answer that is stated by its numbers is stated whole.
 -- Assumes nothing.
 use Prim.Native.Nat.{ℕ}
+use Rattle.std.specs.Prelude.{Result, Ok, Err}
 use mathlib.Core.Bool.{cond}
 use mathlib.Core.Path.{◌≡◌, refl, sym, ap, ◌∙◌}
 use lib.Dec.{eqb}
 use Rattle.units.specs.Sides.{side_number}
-use Rattle.units.specs.Refusals.{Reply, reply_of, refusal_number}
+use Rattle.units.specs.Refusals.{Reply, reply_of, fault_reply, refusal_number}
+use Rattle.units.specs.declared.refusals.Fault.{Fault}
+use Rattle.units.specs.declared.refusals.Fault.TheVariants.{TooWide, Refused}
 use Rattle.units.specs.declared.counts.Side.{Side}
 use Rattle.units.specs.declared.counts.Side.TheVariants.{Left, Right}
-use Rattle.units.specs.declared.refusals.Outcome.{Outcome}
-use Rattle.units.specs.declared.refusals.Outcome.TheVariants.{Done, Refused}
 use Rattle.units.specs.declared.refusals.Refusal.{Refusal}
 use Rattle.units.specs.declared.refusals.Refusal.TheVariants.{InputWidth, OutputWidth, FewCells, Place, Divisor, Line, ShortText}
 
@@ -43,13 +44,23 @@ refused_reads Divisor done wide refused = refl
 refused_reads Line done wide refused = refl
 refused_reads ShortText done wide refused = refl
 
-outcome_of : Reply → Outcome
-outcome_of b = by_number b.number Done Done Refused
+-- the fault that a number and an n name, where there is one
+abbrev pub by_fault : {A : Type 0} → ℕ → ℕ → A → (Fault → A) → A
+by_fault q n done faulty = by_number q done (faulty (TooWide (record { 0 = n }))) (λ (r : Refusal). faulty (Refused r))
 
-outcome_reads : (o : Outcome) → outcome_of (reply_of o) ≡ o
-unfolding outcome_of
-outcome_reads Done = refl
-outcome_reads (Refused r) = refused_reads r Done Done Refused
+pub fault_reads : {A : Type 0} (fault : Fault) (done : A) (faulty : Fault → A)
+    → by_fault (fault_reply fault).number (fault_reply fault).n done faulty ≡ faulty fault
+fault_reads (TooWide n) done faulty = refl
+fault_reads (Refused r) done faulty = refused_reads r done _ (λ (r : Refusal). faulty (Refused r))
 
-pub outcome_one_to_one : (a b : Outcome) → reply_of a ≡ reply_of b → a ≡ b
-outcome_one_to_one = one_to_one reply_of outcome_of outcome_reads
+-- an answer that has no other value
+answer_of : Reply → Result (Unit {0}) Refusal
+answer_of b = by_number b.number (Ok tt) (Ok tt) (λ (r : Refusal). Err r)
+
+answer_reads : (o : Result (Unit {0}) Refusal) → answer_of (reply_of o) ≡ o
+unfolding answer_of
+answer_reads (Ok _) = refl
+answer_reads (Err r) = refused_reads r (Ok tt) (Ok tt) (λ (r : Refusal). Err r)
+
+pub outcome_one_to_one : (a b : Result (Unit {0}) Refusal) → reply_of a ≡ reply_of b → a ≡ b
+outcome_one_to_one = one_to_one reply_of answer_of answer_reads

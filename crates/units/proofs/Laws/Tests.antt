@@ -6,9 +6,11 @@ use mathlib.Core.Path.{◌≡◌, refl, sym, ap, ap₂, ◌∙◌}
 use native.Mathlib.Omega.{arith}
 use borrow.Author.Tests.{ltb-false, le-ltb, ne_eqb, eqb-false}
 use lib.Dec.{ltb, eqb}
-use Rattle.units.specs.Refusals.{Reply, reply, reply_of, refusal_number, Test, answer, refusal, then_reply, outside}
-use Rattle.units.specs.declared.refusals.Outcome.{Outcome}
-use Rattle.units.specs.declared.refusals.Outcome.TheVariants.{Done, Refused}
+use Rattle.units.specs.declared.refusals.Fault.{Fault}
+use Rattle.units.specs.declared.refusals.Fault.TheVariants.{TooWide, Refused}
+use Rattle.units.specs.Refusals.{Reply, reply, reply_of, fault_reply, refusal_number, Test, answer, refusal, then_reply, outside}
+use Rattle.std.specs.Prelude.{Result, Ok, Err, IsErrAnd}
+use Rattle.std.specs.Result.{result_and}
 use Rattle.units.specs.declared.refusals.Refusal.{Refusal}
 use Rattle.units.specs.declared.refusals.Refusal.TheVariants.{InputWidth, OutputWidth, FewCells, Place, Divisor, Line, ShortText}
 
@@ -100,9 +102,17 @@ then_joins (t ∷ ts) rest p = join t.holds t.gives p.0 (refusal (ts ++ rest)) (
     join true gives h all some e = sym (simp (ne_eqb gives.number 0 (λ z. omega arith)))
     join false gives h all some e = e
 
-pub then_is : (ts rest : List Test) → Numbered ts → {a b both : Reply} → both ≡ then_reply a b → a ≡ refusal ts → b ≡ refusal rest
-    → both ≡ refusal (ts ++ rest)
-then_is ts rest p e a b = e ∙ ap₂ then_reply a b ∙ sym (then_joins ts rest p)
+-- where the first list is done, the second one counts
+reply_and : {A B : Type 0} (a : Result A Refusal) (b : Result B Refusal) → reply_of (result_and a b) ≡ then_reply (reply_of a) (reply_of b)
+reply_and (Ok x) b = refl
+reply_and (Err r) b = then_refused r (reply_of b)
+
+pub and_is : {A B : Type 0} (ts rest : List Test) → Numbered ts → (a : Result A Refusal) (b o : Result B Refusal) → o ≡ result_and a b
+    → reply_of a ≡ refusal ts
+    → reply_of b ≡ refusal rest
+    → reply_of o ≡ refusal (ts ++ rest)
+and_is ts rest p a b o both first second =
+    ap reply_of both ∙ reply_and a b ∙ ap₂ then_reply first second ∙ sym (then_joins ts rest p)
 
 -- one list passed, and the other; and back
 pub passed_parts : (ts rest : List Test) → Passed (ts ++ rest) → Passed ts × Passed rest
@@ -192,14 +202,38 @@ other_passed {A} number refuse done q (t ∷ ts) apart gives e =
     by_test true is rest e = absurd (eqb-false t.gives.number q apart.0 (sym (gives t.gives) ∙ e))
     by_test false is rest e = (is, rest e)
 
--- what the code knows after a function has made some tests. They refused, so the call's answer is their number
-pub refused_so : {A : Type 0} (refuse : Reply → A) (done : A) (ts rest : List Test) {o : Outcome} (r : Refusal) → o ≡ Refused r → reply_of o ≡ refusal ts
+-- What the code knows after a function has made some tests. They refused with r, so the call's answer is r's number
+pub refused_so : {A : Type 0} (refuse : Reply → A) (done : A) (ts rest : List Test) (r : Refusal) → reply (refusal_number r) 0 ≡ refusal ts
     → refuse (reply (refusal_number r) 0) ≡ answer refuse done (ts ++ rest)
-refused_so refuse done ts rest r is tests = refused_by refuse done ts rest (sym (ap reply_of is) ∙ tests) (refusal_numbered r)
+refused_so refuse done ts rest r tests = refused_by refuse done ts rest tests (refusal_numbered r)
+
+-- What `?` hands on is that error, whatever is read off the answer
+pub handed_on : {A E R : Type 0} (report : Result A E → R) (o : Result A E) (e : E) → IsErrAnd o (λ (x : E). x ≡ e) → report o ≡ report (Err e)
+handed_on report (Ok x) e is = absurd is
+handed_on report (Err x) e is = ap (λ (y : _). report (Err y)) is
+
+-- so the function's answer is r's number, too
+pub refused_on : {A : Type 0} (ts rest : List Test) (o : Result A Refusal) (r : Refusal) → IsErrAnd o (λ (e : Refusal). e ≡ r)
+    → reply (refusal_number r) 0 ≡ refusal ts
+    → reply_of o ≡ refusal (ts ++ rest)
+refused_on ts rest o r is tests = handed_on reply_of o r is ∙ refused_so (λ (b : Reply). b) (reply 0 0) ts rest r tests
+
+-- they ended in a fault
+pub fault_numbered : (fault : Fault) → 0 < (fault_reply fault).number
+fault_numbered (TooWide n) = omega arith
+fault_numbered (Refused r) = refusal_numbered r
+
+pub fault_so : {A : Type 0} (refuse : Reply → A) (done : A) (ts rest : List Test) (fault : Fault) → fault_reply fault ≡ refusal ts
+    → refuse (fault_reply fault) ≡ answer refuse done (ts ++ rest)
+fault_so refuse done ts rest fault tests = refused_by refuse done ts rest tests (fault_numbered fault)
 
 -- they are done, so none of their reasons holds
-pub done_so : (ts : List Test) → Numbered ts → {o : Outcome} → o ≡ Done → reply_of o ≡ refusal ts → Passed ts
-done_so ts p is tests = all_passed ts p (sym (ap (λ (b : Reply). b.number) (sym (ap reply_of is) ∙ tests)))
+pub done_so : (ts : List Test) → Numbered ts → reply 0 0 ≡ refusal ts → Passed ts
+done_so ts p tests = all_passed ts p (sym (ap (λ (b : Reply). b.number) tests))
+
+-- and what comes after them counts
+pub then_so : (ts rest : List Test) → Numbered ts → reply 0 0 ≡ refusal ts → {b : Reply} → b ≡ refusal rest → b ≡ refusal (ts ++ rest)
+then_so ts rest p tests e = e ∙ rest_answers (λ (b : Reply). b) (reply 0 0) ts rest (done_so ts p tests)
 
 -- a number that is not outside
 pub or_false : (a b : Bool) → (a || b) ≡ false → (a ≡ false) × (b ≡ false)

@@ -2,12 +2,29 @@
 use mathlib.Core.List.{[], ◌∷◌}
 use native.Mathlib.Omega.{arith}
 use Rattle.units.specs.Refusals.{width_tests, place}
-use Rattle.units.proofs.Laws.Tests.{then_is}
+use Rattle.units.proofs.Laws.Tests.{refused_on, then_so, done_so}
+use Rattle.entry.specs.Report.{place_tests}
+use Rattle.entry.proofs.Laws.Good.{place_good}
 use Rattle.entry.proofs.call.placed.Goals as goal
 
-pub returns : goal.returns
-returns c =
-    let args = c.args in
-    then_is (width_tests args.shape) (place args.shape.k args.n.0 ∷ []) (omega arith) c.then.ensures
-    c.widths.ensures
-    c.interval_place.ensures
+pub returns-in_err-widths-clause-answer : goal.returns-in_err-widths-clause-answer
+returns-in_err-widths-clause-answer c =
+    refused_on (width_tests c.args.shape) (place _ _ ∷ []) _ _ c.from_residual.ensures.1 c.in_err-widths.ensures.answer
+
+pub returns-in_err-interval_place-clause-answer : goal.returns-in_err-interval_place-clause-answer
+returns-in_err-interval_place-clause-answer c =
+    then_so (width_tests c.args.shape) (place _ _ ∷ []) (omega arith) c.in_ok-widths.ensures.answer
+    (refused_on (place _ _ ∷ []) [] _ _ c.from_residual-in_err-interval_place.ensures.1 c.in_err-interval_place.ensures)
+
+pub returns-clause-answer : goal.returns-clause-answer
+returns-clause-answer c =
+    then_so (width_tests c.args.shape) (place _ _ ∷ []) (omega arith) c.in_ok-widths.ensures.answer c.in_ok-interval_place.ensures
+
+pub invariant_of-result : goal.invariant_of-result
+invariant_of-result c =
+    record {
+      good =
+          place_good
+          (done_so (place_tests c.args.shape c.args.n.0) (omega arith)
+          (then_so (width_tests c.args.shape) (place _ _ ∷ []) (omega arith) c.in_ok-widths.ensures.answer c.in_ok-interval_place.ensures));
+    }

@@ -6,4 +6,4 @@ use Rattle.entry.proofs.choice.best.Goals as goal
 
 pub returns : goal.returns
 returns c =
-    c.entry_of.ensures ∙ ap (j_of c.args.shape) c.best_field.ensures ∙ rule_field_is c.args.shape c.requires.interval
+    c.entry_of.ensures ∙ ap (j_of c.args.place.shape) c.best_field.ensures ∙ rule_field_is c.args.place.shape c.args.place.good.interval

@@ -5,13 +5,14 @@ use Rattle.entry.proofs.Laws.Good.{good_value}
 use Rattle.entry.proofs.Laws.Table.{rule_in_range, rule_value_reaches_least}
 use Rattle.entry.proofs.choice.least.Goals as goal
 
-pub larger_of-requires : goal.larger_of-requires
-larger_of-requires c =
-    rw c.best.ensures (good_value c.requires (rule_in_range c.args.shape c.requires.interval))
+pub invariant_of-larger_of : goal.invariant_of-larger_of
+invariant_of-larger_of c =
+    let place = c.args.place in
+    record { good = rw c.best.ensures (good_value place.good (rule_in_range place.shape place.good.interval)) }
 
 pub returns : goal.returns
 returns c =
-    let s = c.args.shape in
+    let place = c.args.place in
     c.larger_of.ensures.0
-    ∙ ap (worst (unit s) (i_of s c.args.n.0)) c.best.ensures
-    ∙ rule_value_reaches_least s c.requires.interval
+    ∙ ap (worst (unit place.shape) (i_of place.shape place.n.0)) c.best.ensures
+    ∙ rule_value_reaches_least place.shape place.good.interval

@@ -6,10 +6,10 @@ use Rattle.entry.proofs.Laws.Products.{products_measure, products_larger, produc
 use Rattle.entry.proofs.measure.errors_of.Goals as goal
 
 pub larger-larger-requires : goal.larger-larger-requires
-larger-larger-requires c = products_apart c.requires c.products_of-e.ensures
+larger-larger-requires c = products_apart c.args.entry.good c.products_of-e.ensures
 
 pub difference-requires : goal.difference-requires
-difference-requires c = omega (arith, products_apart c.requires c.products_of-e.ensures)
+difference-requires c = omega (arith, products_apart c.args.entry.good c.products_of-e.ensures)
 
 pub returns-clause-low_is : goal.returns-clause-low_is
 returns-clause-low_is c = c.difference.ensures ∙ (products_measure _ _ _ c.products_of-e.ensures).0
@@ -18,10 +18,10 @@ pub returns-clause-high_is : goal.returns-clause-high_is
 returns-clause-high_is c = c.difference-2.ensures ∙ (products_measure _ _ _ c.products_of-e.ensures).1
 
 pub returns-clause-worst_is : goal.returns-clause-worst_is
-returns-clause-worst_is c = c.larger-larger.ensures.0 ∙ (products_larger _ _ _ c.products_of-e.ensures c.requires.above_0).0
+returns-clause-worst_is c = c.larger-larger.ensures.0 ∙ (products_larger _ _ _ c.products_of-e.ensures c.args.entry.good.above_0).0
 
 pub returns-clause-side_is : goal.returns-clause-side_is
 returns-clause-side_is c =
     c.side_of.ensures
     ∙ ap (side_by_middle _) c.larger-larger.ensures.1
-    ∙ (products_larger _ _ _ c.products_of-e.ensures c.requires.above_0).1
+    ∙ (products_larger _ _ _ c.products_of-e.ensures c.args.entry.good.above_0).1

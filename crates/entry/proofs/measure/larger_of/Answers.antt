@@ -5,9 +5,9 @@ use Rattle.entry.proofs.Laws.Products.{products_larger, products_apart}
 use Rattle.entry.proofs.measure.larger_of.Goals as goal
 
 pub larger-requires : goal.larger-requires
-larger-requires c = products_apart c.requires c.products_of.ensures
+larger-requires c = products_apart c.args.entry.good c.products_of.ensures
 
 pub returns : goal.returns
 returns c =
-    let is = products_larger _ _ _ c.products_of.ensures c.requires.above_0 in
+    let is = products_larger _ _ _ c.products_of.ensures c.args.entry.good.above_0 in
     (c.larger.ensures.0 ∙ is.0, ap (side_by_middle _) c.larger.ensures.1 ∙ is.1)

@@ -6,11 +6,11 @@ use Rattle.table.specs.Inner.Largest.{largest_of}
 use Rattle.table.proofs.Laws.Largest.{largest_after, largest_past}
 use Rattle.table.proofs.fields.largest.Goals as goal
 
-pub loop-at-preserved : goal.loop-at-preserved
-loop-at-preserved c =
-    (omega arith, omega (arith, c.larger_field-most.ensures, c.loop-at.invariant.1, largest_after c.args.cells.now c.loop-at.at (omega arith)))
+pub loop-f-preserved : goal.loop-f-preserved
+loop-f-preserved c =
+    omega (arith, c.loop-f.invariant, largest_after c.args.cells.now c.loop-f.f-index (omega arith))
 
 pub returns : goal.returns
 returns c =
-    let none : largest_of (drop c.loop-at.at c.args.cells.now) ≡ 0 = largest_past c.args.cells.now c.loop-at.at (omega arith) in
-    omega (arith, c.loop-at.invariant.1)
+    let none : largest_of (drop c.loop-f.f-index c.args.cells.now) ≡ 0 = largest_past c.args.cells.now c.loop-f.f-index (omega arith) in
+    omega (arith, c.loop-f.invariant)

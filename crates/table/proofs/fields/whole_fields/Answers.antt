@@ -2,41 +2,48 @@
 -- Assumes nothing.
 use Prim.Native.Nat.{ℕ, ◌^◌}
 use mathlib.Core.List.{[], ◌∷◌}
-use mathlib.Core.Path.{◌≡◌, refl, ◌∙◌}
-use native.Mathlib.Nat.{sub-zero}
+use mathlib.Core.Path.{◌≡◌, ◌∙◌}
 use native.Mathlib.Omega.{arith}
-use lib.ListN.{length, take, length-take}
+use lib.ListN.{take, length-take}
 use Rattle.units.specs.Inner.Good.{GoodTable}
-use Rattle.units.specs.Refusals.{Reply, reply, reply_of, refusal, table_tests}
-use Rattle.units.specs.declared.refusals.Outcome.TheVariants.{Done}
+use Rattle.units.specs.Refusals.{Reply, reply, refusal, table_tests}
 use Rattle.units.specs.declared.shapes.Shape.{Shape}
-use Rattle.units.proofs.Laws.Good.{table_good, good_table}
-use Rattle.units.proofs.Laws.Tests.{done_so, refused_so, rest_answers}
-use Rattle.table.specs.Wide.{wide_among}
+use Rattle.units.proofs.Laws.Good.{table_good}
+use Rattle.units.proofs.Laws.Tests.{handed_on, done_so, refused_so, then_so}
+use Rattle.table.specs.Wide.{wide_among, fields_reply}
 use Rattle.table.proofs.fields.whole_fields.Goals as goal
 
 -- every test but that of the fields passed
-good : (s : Shape) (lent : ℕ) → reply_of Done ≡ refusal (table_tests s lent) → GoodTable s lent
-good s lent e = table_good (done_so (table_tests s lent) (omega arith) refl e)
+good : (s : Shape) (lent : ℕ) → reply 0 0 ≡ refusal (table_tests s lent) → GoodTable s lent
+good s lent e = table_good (done_so (table_tests s lent) (omega arith) e)
 
 pub power-size-requires : goal.power-size-requires
-power-size-requires c = omega (arith, (good c.args.shape _ c.in-Done.ensures).widths)
+power-size-requires c = omega (arith, (good c.args.shape _ c.in_ok-good.ensures.answer).widths)
 
 pub slice_bounds-wide_among-end : goal.slice_bounds-wide_among-end
-slice_bounds-wide_among-end c = omega (arith, c.power-size.ensures, (good c.args.shape _ c.in-Done.ensures).enough)
+slice_bounds-wide_among-end c =
+    let enough = (good c.args.shape _ c.in_ok-good.ensures.answer).enough in
+    simp length-take (omega (arith, c.power-size.ensures, enough))
 
 pub wide_among-requires : goal.wide_among-requires
-wide_among-requires c =
-    ((good c.args.shape _ c.in-Done.ensures).widths, simp length-take (omega (arith, c.power-size.ensures)))
+wide_among-requires c = rw c.in_ok-good.ensures.same (simp length-take (omega (arith, c.power-size.ensures)))
 
-pub returns-in-Refused : goal.returns-in-Refused
-returns-in-Refused c =
-    refused_so (λ (b : Reply). b) (reply 0 0) (table_tests c.args.shape _) _ c.in-Refused.r refl c.in-Refused.ensures
+-- the tests of the whole table refuse
+pub returns-in_err-good-clause-answer : goal.returns-in_err-good-clause-answer
+returns-in_err-good-clause-answer c =
+    handed_on fields_reply _ _ c.from_residual.ensures.1
+    ∙ refused_so (λ (b : Reply). b) (reply 0 0) (table_tests c.args.shape _) (wide_among _ _ _ ∷ []) _ c.in_err-good.ensures.answer
 
-pub returns-in-Done : goal.returns-in-Done
-returns-in-Done c =
-    let s = c.args.shape in
-    let table = c.args.table.now in
-    (rw (c.power-size.ensures, sub-zero (2 ^ s.k)) at c.wide_among.ensures)
-    ∙ rest_answers (λ (b : Reply). b) (reply 0 0) (table_tests s (length table)) (wide_among s 0 (take (2 ^ s.k) table) ∷ [])
-    (good_table (good s _ c.in-Done.ensures))
+-- a field does
+pub returns-in_err-wide_among-clause-answer : goal.returns-in_err-wide_among-clause-answer
+returns-in_err-wide_among-clause-answer c =
+    handed_on fields_reply _ _ c.from_residual-in_err-wide_among.ensures.1
+    ∙ then_so (table_tests c.args.shape _) (wide_among c.args.shape 0 (take (2 ^ c.args.shape.k) c.args.table.now) ∷ []) (omega arith)
+    c.in_ok-good.ensures.answer
+    (rw (c.in_ok-good.ensures.same, c.power-size.ensures) at c.in_err-wide_among.ensures)
+
+pub returns-clause-answer : goal.returns-clause-answer
+returns-clause-answer c =
+    then_so (table_tests c.args.shape _) (wide_among c.args.shape 0 (take (2 ^ c.args.shape.k) c.args.table.now) ∷ []) (omega arith)
+    c.in_ok-good.ensures.answer
+    (rw (c.in_ok-good.ensures.same, c.power-size.ensures) at c.in_ok-wide_among.ensures)

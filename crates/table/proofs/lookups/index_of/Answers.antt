@@ -3,4 +3,4 @@ use Rattle.table.proofs.Laws.Lookup.{rest_is_index}
 use Rattle.table.proofs.lookups.index_of.Goals as goal
 
 pub returns : goal.returns
-returns c = rest_is_index c.args.shape c.args.x c.requires.0.narrow_in c.requires.1.0 c.requires.1.1
+returns c = rest_is_index c.args.good.shape c.args.x c.args.good.good.narrow_in c.requires.0 c.requires.1

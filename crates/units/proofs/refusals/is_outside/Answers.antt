@@ -7,6 +7,6 @@ pub returns-then-x-least : goal.returns-then-x-least
 unfolding outside
 returns-then-x-least c = simp (lt-ltb _ _ c.if-x-least.true)
 
-pub returns : goal.returns
+pub returns-else-x-least : goal.returns-else-x-least
 unfolding outside
-returns c = simp (le-ltb _ _ c.if-x-least.false)
+returns-else-x-least c = simp (le-ltb _ _ c.if-x-least.false)
