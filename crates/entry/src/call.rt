@@ -1,7 +1,8 @@
 // The call "Entry error" of document 01.
 ghost use Rattle.std.specs.Prelude.{◌≡◌, IfOk};
-ghost use Rattle.units.specs.Refusals.{reply_of, refusal};
-ghost use Rattle.entry.specs.Report.{reported, place_tests, entry_report};
+ghost use Rattle.units.specs.Refusals.{reply_of, fault_reply_of, refusal};
+ghost use Rattle.entry.specs.Errors.{j_of};
+ghost use Rattle.entry.specs.Report.{reported, place_tests, entry_tests, entry_report};
 
 use crate::fields::{entry_of, is_wide};
 use crate::measure::{Errors, errors_of};
@@ -18,9 +19,10 @@ pub fn placed(shape: Shape, n: Interval) -> Result<Place, Refusal>
     Ok(Place { shape, n })
 }
 
-// "Entry error takes k, m, n, f and gives low, high, worst and side."
-pub fn entry_error(shape: Shape, n: Interval, f: u16) -> Result<Errors, Fault>
-    ensures { reported result ≡ entry_report shape n.0 f }
+// The same, and 5, of a field that stands by itself: it is tested for them, and what it stands for.
+pub fn entry_placed(shape: Shape, n: Interval, f: u16) -> Result<PlacedEntry, Fault>
+    ensures answer { fault_reply_of result ≡ refusal (entry_tests shape n.0 f) }
+    ensures same { IfOk result (λ entry. (entry.shape ≡ shape) × ((entry.n ≡ n) × (entry.j.0 ≡ j_of shape f))) }
 {
     let place = placed(shape, n)?;
     let good = GoodShape { shape: place.shape };
@@ -28,5 +30,13 @@ pub fn entry_error(shape: Shape, n: Interval, f: u16) -> Result<Errors, Fault>
         return Err(Fault::TooWide(n));
     }
     let j = entry_of(good, f);
-    Ok(errors_of(PlacedEntry { shape, n, j }))
+    Ok(PlacedEntry { shape, n, j })
+}
+
+// "Entry error takes k, m, n, f and gives low, high, worst and side."
+pub fn entry_error(shape: Shape, n: Interval, f: u16) -> Result<Errors, Fault>
+    ensures { reported result ≡ entry_report shape n.0 f }
+{
+    let entry = entry_placed(shape, n, f)?;
+    Ok(errors_of(entry))
 }

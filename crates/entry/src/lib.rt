@@ -10,7 +10,7 @@ mod numbers;
 mod places;
 mod quotients;
 
-pub use call::{entry_error, placed};
+pub use call::{entry_error, entry_placed, placed};
 pub use choice::{best_field, least};
 pub use fields::{entry_of, fields_of, is_wide};
 pub use measure::{Errors, errors_of, larger_of, side_of};

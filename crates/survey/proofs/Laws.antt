@@ -1,4 +1,5 @@
 pub mod Scan
+pub mod Named
 pub mod Shown
 pub mod Largest
 pub mod Join

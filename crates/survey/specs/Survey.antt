@@ -1,13 +1,13 @@
 -- The answers of "Survey" and of the bank surveys. Document 01, "The calls" and "Refusal numbers and their order". Assumes nothing.
-use Rattle.std.specs.Prelude.{ℕ, ◌+◌, ◌^◌, List, [], ◌∷◌, ◌++◌, length, take}
-use Rattle.units.specs.Refusals.{Reply, reply, Test, answer, refusal_number, table_tests, few_cells}
+use Rattle.std.specs.Prelude.{ℕ, ◌+◌, ◌^◌, List, [], ◌∷◌, ◌++◌, length, take, Result, Ok, Err}
+use Rattle.units.specs.Refusals.{Reply, fault_reply, Test, answer, table_tests, few_cells}
 use Rattle.units.specs.declared.shapes.Shape.{Shape}
 use Rattle.table.specs.Banks.{bank_size, bank_start, bank_of, named_tests}
 use Rattle.table.specs.Wide.{wide_among}
 use Rattle.survey.specs.Finding.{Figures, fresh, finding_over}
 use Rattle.survey.specs.Tally.{figures_of}
-use Rattle.survey.specs.declared.surveys.SurveyAnswer.{SurveyAnswer}
-use Rattle.survey.specs.declared.surveys.SurveyAnswer.TheVariants.{Surveyed, TooWide, Refused}
+use Rattle.survey.specs.declared.tallies.Finding.{Finding}
+use Rattle.units.specs.declared.refusals.Fault.{Fault}
 
 -- "the largest worst error, the smallest n that has it, and that entry's side"; with 5 only n. "Fields that an answer doesn't use are zero."
 pub record Report : Type 0 where
@@ -21,10 +21,9 @@ abbrev pub surveyed : Figures → Report
 surveyed f = record { number = 0; finding = f }
 
 -- what each case of the answer says in document 01's numbers
-abbrev pub reported : SurveyAnswer → Report
-reported (Surveyed f) = surveyed (figures_of f)
-reported (TooWide n) = refused (reply 5 n.0)
-reported (Refused r) = refused (reply (refusal_number r) 0)
+abbrev pub reported : Result Finding Fault → Report
+reported (Ok f) = surveyed (figures_of f)
+reported (Err fault) = refused (fault_reply fault)
 
 -- the survey of some fields, the first of them that of interval n, after a call's other tests: "Survey and check look for 5 in the whole
 -- lent table (or bank) first; a bank survey names that n in the whole table."

@@ -1,14 +1,13 @@
 -- The running tally. Document 01, "The calls". Assumes nothing.
-use Rattle.std.specs.Prelude.{ℕ, ◌+◌, List, [], ◌∷◌}
-use Rattle.units.specs.Refusals.{Reply, reply, answer, refusal_number}
+use Rattle.std.specs.Prelude.{ℕ, ◌+◌, List, [], ◌∷◌, Result, Ok, Err}
+use Rattle.units.specs.Refusals.{Reply, reply, fault_reply, answer}
 use Rattle.units.specs.Sides.{side_number}
 use Rattle.units.specs.declared.shapes.Shape.{Shape}
 use Rattle.entry.specs.Report.{entry_tests}
 use Rattle.survey.specs.Finding.{Figures, fresh, entry_figures, or_larger}
 use Rattle.survey.specs.declared.tallies.Finding.{Finding}
 use Rattle.survey.specs.declared.tallies.Tally.{Tally}
-use Rattle.survey.specs.declared.tallies.TallyAnswer.{TallyAnswer}
-use Rattle.survey.specs.declared.tallies.TallyAnswer.TheVariants.{Taken, TooWide, Refused}
+use Rattle.survey.specs.declared.tallies.NotTaken.{NotTaken}
 
 -- "It holds the widths, the next n and the finding so far", and the kind
 pub record State : Type 0 where
@@ -39,10 +38,9 @@ pub record Report : Type 0 where
 abbrev pub handed_back : State → Reply → Report
 handed_back t b = record { number = b.number; n = b.n; state = t }
 
-abbrev pub reported : TallyAnswer → Report
-reported (Taken t) = handed_back (state_of t) (reply 0 0)
-reported (TooWide n t) = handed_back (state_of t) (reply 5 n.0)
-reported (Refused r t) = handed_back (state_of t) (reply (refusal_number r) 0)
+abbrev pub reported : Result Tally NotTaken → Report
+reported (Ok t) = handed_back (state_of t) (reply 0 0)
+reported (Err not) = handed_back (state_of not.tally) (fault_reply not.fault)
 
 -- It "takes the field of that next n". "It is tested for 1, 2, 4 (next n) and 5 in that order; a refused tally comes back as it was, and 5 names that n."
 abbrev pub tally_report : State → ℕ → Report

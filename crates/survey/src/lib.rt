@@ -4,5 +4,5 @@
 mod surveys;
 mod tallies;
 
-pub use surveys::{SurveyAnswer, bank, bank_of, whole};
-pub use tallies::{Finding, Tally, TallyAnswer};
+pub use surveys::{bank, bank_of, whole};
+pub use tallies::{Finding, NotTaken, Tally};

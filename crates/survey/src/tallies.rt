@@ -5,11 +5,11 @@ ghost use Rattle.entry.specs.Inner.Good.{GoodEntry};
 ghost use Rattle.survey.specs.Finding.{fresh, value_figures, or_larger};
 ghost use Rattle.survey.specs.Tally.{figures_of, state_of, started, tallied_at, reported, tally_report};
 
-use entry::{entry_of, is_wide, larger_of, placed, side_of};
-use units::{Entry, Interval, Outcome, Refusal, Shape, Side, Worst};
+use entry::{PlacedEntry, entry_of, entry_placed, larger_of, side_of};
+use units::{Fault, GoodShape, Interval, Shape, Side, Worst};
 
 // The largest worst error so far, the smallest n that has it, and that entry's side.
-#[derive(Clone, Copy)]
+#[derive(Clone, Copy, Debug, PartialEq, Eq)]
 pub struct Finding {
     pub worst: Worst,
     pub n: Interval,
@@ -17,19 +17,18 @@ pub struct Finding {
 }
 
 // The survey's state: the shape, the next n and the finding so far. Its fields may hold anything.
-#[derive(Clone, Copy)]
+#[derive(Clone, Copy, Debug, PartialEq, Eq)]
 pub struct Tally {
     pub shape: Shape,
     pub next: Interval,
     pub finding: Finding,
 }
 
-// What taking a field answers. A refused tally comes back as it was.
-#[derive(Clone, Copy)]
-pub enum TallyAnswer {
-    Taken(Tally),
-    TooWide(Interval, Tally),
-    Refused(Refusal, Tally),
+// Why a field was not taken, and the tally as it was: "a refused tally comes back as it was".
+#[derive(Clone, Copy, Debug, PartialEq, Eq)]
+pub struct NotTaken {
+    pub fault: Fault,
+    pub tally: Tally,
 }
 
 impl Finding {
@@ -44,18 +43,17 @@ impl Finding {
         }
     }
 
-    // "An entry replaces the finding only where its worst is larger": the value j of interval n.
-    pub(crate) fn or_larger(self, shape: Shape, n: Interval, j: Entry) -> Finding
-        requires { GoodEntry shape n.0 j.0 }
-        ensures { figures_of result ≡ or_larger (figures_of self) (value_figures shape n.0 j.0) }
+    // "An entry replaces the finding only where its worst is larger."
+    pub(crate) fn or_larger(self, entry: PlacedEntry) -> Finding
+        ensures { figures_of result ≡ or_larger (figures_of self) (value_figures entry.shape entry.n.0 entry.j.0) }
     {
-        let larger = larger_of(shape, n, j);
-        let worst = larger.worst;
-        if self.worst.0 < worst.0 {
+        let larger = larger_of(entry);
+        if self.worst < larger.worst {
+            let good = GoodShape { shape: entry.shape };
             return Finding {
-                worst: worst,
-                n: n,
-                side: side_of(shape, larger.middle),
+                worst: larger.worst,
+                n: entry.n,
+                side: side_of(good, larger.middle),
             };
         }
         self
@@ -69,7 +67,7 @@ impl Tally {
         ensures { state_of result ≡ started shape first.0 }
     {
         Tally {
-            shape: shape,
+            shape,
             next: first,
             finding: Finding::fresh(),
         }
@@ -82,28 +80,21 @@ impl Tally {
         ensures { state_of result ≡ tallied_at (state_of self) n.0 f }
     {
         let shape = self.shape;
-        let old = self.finding;
+        let j = entry_of(GoodShape { shape }, f);
         Tally {
-            shape: shape,
+            shape,
             next: Interval(n.0 + 1),
-            finding: old.or_larger(shape, n, entry_of(shape, f)),
+            finding: self.finding.or_larger(PlacedEntry { shape, n, j }),
         }
     }
 
     // "It .. takes the field of that next n."
-    pub fn take(self, f: u16) -> TallyAnswer
+    pub fn take(self, f: u16) -> Result<Tally, NotTaken>
         ensures { reported result ≡ tally_report (state_of self) f }
     {
-        let shape = self.shape;
-        let n = self.next;
-        match placed(shape, n) {
-            Outcome::Refused(r) => TallyAnswer::Refused(r, self),
-            Outcome::Done => {
-                if is_wide(shape, f) {
-                    return TallyAnswer::TooWide(n, self);
-                }
-                TallyAnswer::Taken(self.add(n, f))
-            }
+        match entry_placed(self.shape, self.next, f) {
+            Ok(_) => Ok(self.add(self.next, f)),
+            Err(fault) => Err(NotTaken { fault, tally: self }),
         }
     }
 }

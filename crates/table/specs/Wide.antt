@@ -1,7 +1,7 @@
 -- Number 5 over a list of fields: "number and the smallest such n". Document 01, "Refusal numbers and their order".
 -- Assumes nothing.
-use Rattle.std.specs.Prelude.{ℕ, ◌^◌, Bool, List, [], ◌∷◌, ◌++◌, length, take, Result, Ok, Err}
-use Rattle.units.specs.Refusals.{Reply, reply, fault_reply, Test, test, table_tests}
+use Rattle.std.specs.Prelude.{ℕ, ◌^◌, Bool, List, [], ◌∷◌, ◌++◌, length, take, Result}
+use Rattle.units.specs.Refusals.{Reply, reply, fault_reply_of, Test, test, table_tests}
 use Rattle.units.specs.declared.shapes.Shape.{Shape}
 use Rattle.entry.specs.Fields.{is_wide}
 use Rattle.table.specs.First.{any_of, first_of}
@@ -24,5 +24,4 @@ field_tests s cells = table_tests s (length cells) ++ (wide_among s 0 (take (2 ^
 
 -- what the tests end in: "done", 5 with its n, or a number only
 abbrev pub fields_reply : {A : Type 0} → Result A Fault → Reply
-fields_reply (Ok _) = reply 0 0
-fields_reply (Err fault) = fault_reply fault
+fields_reply answer = fault_reply_of answer

@@ -35,6 +35,10 @@ abbrev pub fault_reply : Fault → Reply
 fault_reply (TooWide n) = reply 5 n.0
 fault_reply (Refused r) = reply (refusal_number r) 0
 
+abbrev pub fault_reply_of : {A : Type 0} → Result A Fault → Reply
+fault_reply_of (Ok _) = reply 0 0
+fault_reply_of (Err fault) = fault_reply fault
+
 -- One test of a call: whether its reason holds (the column "When"), and what then comes back
 pub record Test : Type 0 where
   pub holds : Bool

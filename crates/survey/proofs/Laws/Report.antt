@@ -8,7 +8,7 @@ use lib.ListN.{length, take}
 use Rattle.units.specs.declared.counts.Side.{Side}
 use Rattle.units.specs.Refusals.{Test, few_cells, table_tests}
 use Rattle.units.specs.declared.shapes.Shape.{Shape}
-use Rattle.units.proofs.Laws.OneToOne.{one_to_one, side_of, side_reads, by_number, refused_reads}
+use Rattle.units.proofs.Laws.OneToOne.{one_to_one, side_of, side_reads, by_fault, fault_reads}
 use Rattle.units.proofs.Laws.Tests.{Each, answer_has}
 use Rattle.table.specs.Banks.{bank_size, bank_start, bank_of, named_tests}
 use Rattle.entry.specs.Fields.{is_wide}
@@ -19,8 +19,8 @@ use Rattle.survey.specs.Finding.{Figures}
 use Rattle.survey.specs.Survey.{Report, refused, reported, survey_after, survey_report, bank_report, bank_of_report}
 use Rattle.survey.specs.Tally.{figures_of}
 use Rattle.survey.specs.declared.tallies.Finding.{Finding}
-use Rattle.survey.specs.declared.surveys.SurveyAnswer.{SurveyAnswer}
-use Rattle.survey.specs.declared.surveys.SurveyAnswer.TheVariants.{Surveyed, TooWide, Refused}
+use Rattle.std.specs.Prelude.{Result, Ok, Err}
+use Rattle.units.specs.declared.refusals.Fault.{Fault}
 
 pub finding_back : Figures → Finding
 finding_back f = record { worst = record { 0 = f.worst }; n = record { 0 = f.n }; side = side_of f.side }
@@ -29,16 +29,15 @@ pub finding_reads : (f : Finding) → finding_back (figures_of f) ≡ f
 unfolding finding_back
 finding_reads f = ap (λ (s : Side). record { worst = f.worst; n = f.n; side = s }) (side_reads f.side)
 
-answer_of : Report → SurveyAnswer
-answer_of r = by_number r.number (Surveyed (finding_back r.finding)) (TooWide (record { 0 = r.finding.n })) Refused
+answer_of : Report → Result Finding Fault
+answer_of r = by_fault r.number r.finding.n (Ok (finding_back r.finding)) (λ (fault : Fault). Err fault)
 
-reads : (a : SurveyAnswer) → answer_of (reported a) ≡ a
+reads : (a : Result Finding Fault) → answer_of (reported a) ≡ a
 unfolding answer_of
-reads (Surveyed f) = ap Surveyed (finding_reads f)
-reads (TooWide n) = refl
-reads (Refused r) = refused_reads r _ _ Refused
+reads (Ok f) = ap (λ (f : Finding). Ok f) (finding_reads f)
+reads (Err fault) = fault_reads fault _ (λ (fault : Fault). Err fault)
 
-pub reported_one_to_one : (a b : SurveyAnswer) → reported a ≡ reported b → a ≡ b
+pub reported_one_to_one : (a b : Result Finding Fault) → reported a ≡ reported b → a ≡ b
 reported_one_to_one = one_to_one reported answer_of reads
 
 -- "Fields that an answer doesn't use are zero, with any number, 0 and 5 too."

@@ -1,13 +1,13 @@
 -- The answer of `Tally::take` can be read back from its numbers, so no two answers have the same; and when its
 -- n is zero. Assumes nothing.
 use mathlib.Core.Path.{◌≡◌, refl, ap, ◌∙◌}
-use Rattle.units.specs.declared.refusals.Refusal.{Refusal}
-use Rattle.units.proofs.Laws.OneToOne.{one_to_one, by_number, refused_reads}
+use Rattle.std.specs.Prelude.{Result, Ok, Err}
+use Rattle.units.specs.declared.refusals.Fault.{Fault}
+use Rattle.units.proofs.Laws.OneToOne.{one_to_one, by_fault, fault_reads}
 use Rattle.survey.specs.Tally.{State, state_of, Report, reported, handed_back, tally_report}
 use Rattle.survey.specs.declared.tallies.Finding.{Finding}
 use Rattle.survey.specs.declared.tallies.Tally.{Tally}
-use Rattle.survey.specs.declared.tallies.TallyAnswer.{TallyAnswer}
-use Rattle.survey.specs.declared.tallies.TallyAnswer.TheVariants.{Taken, TooWide, Refused}
+use Rattle.survey.specs.declared.tallies.NotTaken.{NotTaken}
 use Rattle.survey.proofs.Laws.Report.{finding_back, finding_reads}
 use Prim.Native.Nat.{ℕ}
 use Rattle.units.proofs.Laws.Tests.{answer_has}
@@ -23,18 +23,19 @@ tally_reads t = ap (λ (f : Finding). record { shape = t.shape; next = t.next; f
 pub state_one_to_one : (a b : Tally) → state_of a ≡ state_of b → a ≡ b
 state_one_to_one = one_to_one state_of tally_back tally_reads
 
-answer_of : Report → TallyAnswer
-answer_of r =
-    by_number r.number (Taken (tally_back r.state)) (TooWide (record { 0 = r.n }) (tally_back r.state))
-    (λ (q : Refusal). Refused q (tally_back r.state))
+not_taken : Tally → Fault → Result Tally NotTaken
+not_taken t fault = Err (record { fault = fault; tally = t })
 
-reads : (a : TallyAnswer) → answer_of (reported a) ≡ a
-unfolding answer_of
-reads (Taken t) = ap Taken (tally_reads t)
-reads (TooWide n t) = ap (TooWide n) (tally_reads t)
-reads (Refused r t) = refused_reads r _ _ (λ (q : Refusal). Refused q (tally_back (state_of t))) ∙ ap (Refused r) (tally_reads t)
+answer_of : Report → Result Tally NotTaken
+answer_of r = by_fault r.number r.n (Ok (tally_back r.state)) (not_taken (tally_back r.state))
 
-pub reported_one_to_one : (a b : TallyAnswer) → reported a ≡ reported b → a ≡ b
+reads : (a : Result Tally NotTaken) → answer_of (reported a) ≡ a
+unfolding answer_of not_taken
+reads (Ok t) = ap (λ (t : Tally). Ok t) (tally_reads t)
+reads (Err not) =
+    fault_reads not.fault _ (not_taken (tally_back (state_of not.tally))) ∙ ap (λ (t : Tally). not_taken t not.fault) (tally_reads not.tally)
+
+pub reported_one_to_one : (a b : Result Tally NotTaken) → reported a ≡ reported b → a ≡ b
 reported_one_to_one = one_to_one reported answer_of reads
 
 -- "Fields that an answer doesn't use are zero, with any number, 0 and 5 too."

@@ -10,14 +10,14 @@ use Rattle.survey.specs.Survey.{refused}
 use Rattle.survey.proofs.Laws.Scan.{after_passed}
 use Rattle.survey.proofs.surveys.survey_part.Goals as goal
 
-pub returns-then-cells-end : goal.returns-then-cells-end
-returns-then-cells-end c =
-    refused_after refused _ [] (few_cells (length c.args.cells.now) c.args.end) _ tt (lt-ltb _ _ c.if-cells-end.true)
+pub returns-then-cells-part : goal.returns-then-cells-part
+returns-then-cells-part c =
+    refused_after refused _ [] (few_cells (length c.args.cells.now) c.args.part.end) _ tt (lt-ltb _ _ c.if-cells-part.true)
 
 pub survey_fields-requires : goal.survey_fields-requires
-survey_fields-requires c = (c.requires.0, simp (length-take, length-drop) (omega (arith, c.requires.1)))
+survey_fields-requires c = simp (length-take, length-drop) (omega (arith, c.requires))
 
 pub returns : goal.returns
 returns c =
     c.survey_fields.ensures
-    ∙ after_passed (few_cells (length c.args.cells.now) c.args.end ∷ []) [] c.args.shape c.args.first _ (le-ltb _ _ c.if-cells-end.false, tt)
+    ∙ after_passed (few_cells (length c.args.cells.now) c.args.part.end ∷ []) [] c.args.good.shape c.args.first _ (le-ltb _ _ c.if-cells-part.false, tt)
