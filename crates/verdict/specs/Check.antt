@@ -1,12 +1,12 @@
 -- The answer of "Check". Document 01, "The calls" and "Refusal numbers and their order". Assumes nothing.
-use Rattle.std.specs.Prelude.{ℕ, suc, ◌^◌, Bool, true, false, cond, List, [], ◌∷◌, take}
-use Rattle.units.specs.Refusals.{Reply, reply, answer, refusal_number}
+use Rattle.std.specs.Prelude.{ℕ, suc, ◌^◌, Bool, true, false, cond, List, [], ◌∷◌, take, Result, Ok, Err}
+use Rattle.units.specs.Refusals.{Reply, fault_reply, answer}
 use Rattle.units.specs.declared.shapes.Shape.{Shape}
 use Rattle.entry.specs.Errors.{unit, i_of, j_of, worst}
 use Rattle.entry.specs.Least.{least_worst, is_best}
 use Rattle.table.specs.Wide.{field_tests}
-use Rattle.verdict.specs.declared.CheckAnswer.{CheckAnswer}
-use Rattle.verdict.specs.declared.CheckAnswer.TheVariants.{Yes, NotBest, TooWide, Refused}
+use Rattle.verdict.specs.declared.NotPassed.{NotPassed}
+use Rattle.verdict.specs.declared.NotPassed.TheVariants.{NotBest, Faulty}
 
 -- "Check answers yes, or the smallest n whose entry is not best, with its worst error and the least one."
 -- "Fields that an answer doesn't use are zero."
@@ -27,11 +27,10 @@ abbrev pub not_best : ℕ → ℕ → ℕ → Report
 not_best n worst least = record { number = 0; yes = false; n = n; worst = worst; least = least }
 
 -- what each case of the answer says in document 01's numbers
-abbrev pub reported : CheckAnswer → Report
-reported Yes = passed
-reported (NotBest n worst least) = not_best n.0 worst.0 least.0
-reported (TooWide n) = refused (reply 5 n.0)
-reported (Refused r) = refused (reply (refusal_number r) 0)
+abbrev pub reported : Result (Unit {0}) NotPassed → Report
+reported (Ok _) = passed
+reported (Err (NotBest n worst least)) = not_best n.0 worst.0 least.0
+reported (Err (Faulty fault)) = refused (fault_reply fault)
 
 -- the first entry that fails a test of its n and j, where the first of the fields is that of interval n; or yes at the end
 unfoldable pub first_failing : (ℕ → ℕ → Bool) → Shape → ℕ → List ℕ → Report

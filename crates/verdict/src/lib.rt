@@ -1,61 +1,68 @@
 // The call "Check" of document 01: whether every entry of a table is best.
 #![tactic(auto)]
 
-ghost use Rattle.std.specs.Prelude.{◌≡◌, false, ◌≤◌, ◌^◌, length};
-ghost use Rattle.units.specs.Inner.Good.{GoodWidths};
+ghost use Rattle.std.specs.Prelude.{◌≡◌, false, ◌≤◌, ◌^◌, Err, length};
 ghost use Rattle.entry.specs.Errors.{unit, i_of, worst};
-ghost use Rattle.entry.specs.Inner.Good.{GoodEntry};
 ghost use Rattle.entry.specs.Least.{least_worst, is_best};
 ghost use Rattle.table.specs.Wide.{any_wide};
+ghost use Rattle.verdict.specs.declared.NotPassed.TheVariants.{Faulty};
 ghost use Rattle.verdict.specs.Check.{reported, not_best, first_failing, check_report};
 
-use entry::{entry_of, larger_of, least, quotient_before};
-use table::{FieldsOutcome, whole_fields};
-use units::{Entry, Interval, Refusal, Shape, Worst, power};
+use entry::{Place, PlacedEntry, entry_of, larger_of, least, quotient_before};
+use table::whole_fields;
+use units::{Fault, GoodShape, Interval, Shape, Worst, power};
 
-// What "Check" answers.
-#[derive(Clone, Copy)]
-pub enum CheckAnswer {
-    Yes,
+// Why a table does not pass: the first entry that is not best, with its worst error and the least one; or
+// the table is none.
+#[derive(Clone, Copy, Debug, PartialEq, Eq)]
+pub enum NotPassed {
     NotBest {
         n: Interval,
         worst: Worst,
         least: Worst,
     },
-    TooWide(Interval),
-    Refused(Refusal),
+    Faulty(Fault),
 }
 
-// The entry j of interval n, with its worst error and the least one.
-fn not_best(shape: Shape, n: Interval, j: Entry) -> CheckAnswer
-    requires { GoodEntry shape n.0 j.0 }
-    ensures { reported result ≡ not_best n.0 (worst (unit shape) (i_of shape n.0) j.0) (least_worst shape n.0) }
-{
-    let worst = larger_of(shape, n, j).worst;
-    CheckAnswer::NotBest {
-        n: n,
-        worst: worst,
-        least: least(shape, n),
+impl From<Fault> for NotPassed {
+    ghost from_gives = { λ fault e. e ≡ Faulty fault };
+
+    fn from(fault: Fault) -> NotPassed {
+        NotPassed::Faulty(fault)
     }
 }
 
-// "The scan ends there and yields that finding": a loop whose break gives the first entry that isn't
-// best, or yes at the end. The builder's quotient goes along: one product and no division for an entry
-// that passes.
-fn scan(shape: Shape, cells: &[u16]) -> CheckAnswer
-    requires good_widths { (GoodWidths shape) × (length cells.now ≤ 2 ^ shape.k) }
-    requires cells_value { any_wide shape cells.now ≡ false }
-    ensures { reported result ≡ first_failing (is_best shape) shape 0 cells.now }
+// The entry, with its worst error and the least one.
+fn not_best(entry: PlacedEntry) -> NotPassed
+    ensures { reported (Err result) ≡ not_best entry.n.0 (worst (unit entry.shape) (i_of entry.shape entry.n.0) entry.j.0) (least_worst entry.shape entry.n.0) }
 {
-    let mut quotient = quotient_before(shape, Interval(0));
+    let (shape, n) = (entry.shape, entry.n);
+    let worst = larger_of(entry).worst;
+    let least = least(Place { shape, n });
+    NotPassed::NotBest { n, worst, least }
+}
+
+// "The scan ends there and yields that finding": a loop whose break gives the first entry that isn't
+// best, or yes at the end. (A `for` has no such break, so the cells are counted by hand.) The builder's
+// quotient goes along: one product and no division for an entry that passes.
+fn scan(good: GoodShape, cells: &[u16]) -> Result<(), NotPassed>
+    requires fits { length cells.now ≤ 2 ^ good.shape.k }
+    requires narrow { any_wide good.shape cells.now ≡ false }
+    ensures { reported result ≡ first_failing (is_best good.shape) good.shape 0 cells.now }
+{
+    let shape = good.shape;
+    let first = Interval(0);
+    let mut quotient = quotient_before(Place { shape, n: first });
     let mut at: usize = 0;
     loop {
         if cells.len() <= at {
-            break CheckAnswer::Yes;
+            break Ok(());
         }
         quotient = quotient.next();
-        if !quotient.is_best(shape, cells[at]) {
-            break not_best(shape, Interval(at as u32), entry_of(shape, cells[at]));
+        if !quotient.is_best(good, cells[at]) {
+            let n = Interval(at as u32);
+            let j = entry_of(good, cells[at]);
+            break Err(not_best(PlacedEntry { shape, n, j }));
         }
         at += 1;
     }
@@ -63,15 +70,10 @@ fn scan(shape: Shape, cells: &[u16]) -> CheckAnswer
 
 // "Check answers yes, or the smallest n whose entry is not best, with its worst error and the least
 // one."
-pub fn check(shape: Shape, table: &[u16]) -> CheckAnswer
+pub fn check(shape: Shape, table: &[u16]) -> Result<(), NotPassed>
     ensures { reported result ≡ check_report shape table.now }
 {
-    match whole_fields(shape, table) {
-        FieldsOutcome::Refused(r) => CheckAnswer::Refused(r),
-        FieldsOutcome::TooWide(n) => CheckAnswer::TooWide(n),
-        FieldsOutcome::Done => {
-            let size = power(shape.k) as usize;
-            scan(shape, &table[0..size])
-        }
-    }
+    let good = whole_fields(shape, table)?;
+    let size = power(shape.k) as usize;
+    scan(good, &table[..size])
 }

@@ -7,29 +7,33 @@ use mathlib.Core.List.{List, [], ◌∷◌}
 use native.Mathlib.Omega.{arith}
 use lib.ListN.{take}
 use Rattle.units.specs.declared.shapes.Shape.{Shape}
-use Rattle.units.proofs.Laws.OneToOne.{one_to_one, by_number, refused_reads}
+use Rattle.units.proofs.Laws.OneToOne.{one_to_one, by_fault, fault_reads}
 use Rattle.units.proofs.Laws.Tests.{answer_has}
 use Rattle.entry.specs.Errors.{unit, i_of, j_of, worst}
 use Rattle.entry.specs.Least.{least_worst, is_best}
 use Rattle.table.specs.Wide.{field_tests}
 use Rattle.verdict.specs.Check.{Report, refused, not_best, reported, first_failing, check_report}
-use Rattle.verdict.specs.declared.CheckAnswer.{CheckAnswer}
-use Rattle.verdict.specs.declared.CheckAnswer.TheVariants.{Yes, NotBest, TooWide, Refused}
+use Rattle.std.specs.Prelude.{Result, Ok, Err}
+use Rattle.units.specs.declared.refusals.Fault.{Fault}
+use Rattle.verdict.specs.declared.NotPassed.{NotPassed}
+use Rattle.verdict.specs.declared.NotPassed.TheVariants.{NotBest, Faulty}
 
-answer_of : Report → CheckAnswer
+faulty : Fault → Result (Unit {0}) NotPassed
+faulty fault = Err (Faulty fault)
+
+answer_of : Report → Result (Unit {0}) NotPassed
 answer_of r =
-    cond r.yes Yes
-    (by_number r.number (NotBest (record { 0 = r.n }) (record { 0 = r.worst }) (record { 0 = r.least })) (TooWide (record { 0 = r.n })) Refused)
+    cond r.yes (Ok tt)
+    (by_fault r.number r.n (Err (NotBest (record { 0 = r.n }) (record { 0 = r.worst }) (record { 0 = r.least }))) faulty)
 
-reads : (a : CheckAnswer) → answer_of (reported a) ≡ a
-unfolding answer_of
-reads Yes = refl
-reads (NotBest n worst least) = refl
-reads (TooWide n) = refl
-reads (Refused r) = refused_reads r _ _ Refused
+reads : (a : Result (Unit {0}) NotPassed) → answer_of (reported a) ≡ a
+unfolding answer_of faulty
+reads (Ok _) = refl
+reads (Err (NotBest n worst least)) = refl
+reads (Err (Faulty fault)) = fault_reads fault _ faulty
 
 -- Document 01: "That any two answers allowed by a statement are equal is itself proved"
-pub reported_one_to_one : (a b : CheckAnswer) → reported a ≡ reported b → a ≡ b
+pub reported_one_to_one : (a b : Result (Unit {0}) NotPassed) → reported a ≡ reported b → a ≡ b
 reported_one_to_one = one_to_one reported answer_of reads
 
 -- "Fields that an answer doesn't use are zero, with any number, 0 and 5 too."

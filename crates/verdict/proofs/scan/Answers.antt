@@ -18,21 +18,21 @@ here widths few inside = record { widths = widths; interval = omega arith }
 
 pub next-quotient-requires : goal.next-quotient-requires
 next-quotient-requires c =
-    let pre = c.requires.good_widths in
-    quotient_has_next (here pre.0 pre.1 c.if-cells-at.false) c.loop-at.invariant.1
+    quotient_has_next (here c.args.good.good c.requires.fits c.if-cells-at.false) c.loop-at.invariant.1
 
-pub not_best-requires : goal.not_best-requires
-not_best-requires c =
-    let pre = c.requires.good_widths in
-    rw c.entry_of.ensures
-    (good_field _ (here pre.0 pre.1 c.if-cells-at.false) (scanning_narrow c.loop-at.invariant.0 c.if-cells-at.false))
+pub invariant_of-not_best : goal.invariant_of-not_best
+invariant_of-not_best c =
+    record {
+      good =
+          rw c.entry_of-j.ensures
+          (good_field _ (here c.args.good.good c.requires.fits c.if-cells-at.false) (scanning_narrow c.loop-at.invariant.0 c.if-cells-at.false));
+    }
 
 pub loop-at-preserved : goal.loop-at-preserved
 loop-at-preserved c =
-    let pre = c.requires.good_widths in
     let inv = c.loop-at.invariant in
     let inside = c.if-cells-at.false in
-    let place = here pre.0 pre.1 inside in
+    let place = here c.args.good.good c.requires.fits inside in
     let decides = quotient_decides place inv.1 _ (scanning_narrow inv.0 inside) in (
       scanning_goes_on inv.0 inside refl (sym (c.if-not-is_best.ensures ∙ rw c.next-quotient.ensures decides)),
       rw (c.next-quotient.ensures, add-one c.loop-at.at) (quotient_moves_on place inv.1),
@@ -43,10 +43,9 @@ returns-then-cells-at c = scanning_ends c.loop-at.invariant.0 c.if-cells-at.true
 
 pub returns-then-not-is_best : goal.returns-then-not-is_best
 returns-then-not-is_best c =
-    let pre = c.requires.good_widths in
     let inv = c.loop-at.invariant in
     let inside = c.if-cells-at.false in
-    let decides = quotient_decides (here pre.0 pre.1 inside) inv.1 _ (scanning_narrow inv.0 inside) in
+    let decides = quotient_decides (here c.args.good.good c.requires.fits inside) inv.1 _ (scanning_narrow inv.0 inside) in
     c.not_best.ensures
-    ∙ scanning_stops inv.0 inside c.entry_of.ensures
-    (rw c.entry_of.ensures (sym (c.if-not-is_best.ensures ∙ rw c.next-quotient.ensures decides)))
+    ∙ scanning_stops inv.0 inside c.entry_of-j.ensures
+    (rw c.entry_of-j.ensures (sym (c.if-not-is_best.ensures ∙ rw c.next-quotient.ensures decides)))
