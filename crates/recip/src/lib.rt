@@ -5,9 +5,10 @@
 
 // The kinds of numbers: n of an interval, j of an entry, an error with its sign, and its size; s of a
 // divisor's shift; the side of an entry at which its error is larger; the offset of a byte in a text;
-// the shape of a table and its kind, plain or with one; and the refusal numbers.
+// the shape of a table and its kind, plain or with one; the refusals with their numbers, and a fault of
+// a table's fields, which is one of them or names an interval.
 pub use units::{
-    Entry, Error, Interval, Kind, Offset, Outcome, Refusal, Shape, Shift, Side, Worst,
+    Entry, Error, Fault, Interval, Kind, Offset, Refusal, Shape, Shift, Side, Worst, number_of,
 };
 
 // Build: fields 0 to 2^k - 1 of the best table; cells after them keep their value.
@@ -20,20 +21,19 @@ pub use table::build_bank;
 pub use table::{show_bank, show_bank_number};
 
 // Entry error: low, high, worst and side of one entry.
-pub use entry::{ErrorAnswer, Errors, entry_error};
+pub use entry::{Errors, entry_error};
 
 // Survey: the largest worst error of any table, the smallest n that has it, and its side; by a tally
 // that takes one entry at a time, of a whole table, and of a bank by itself or in its table.
 pub use survey::{
-    Finding, SurveyAnswer, Tally, TallyAnswer, bank as survey_bank, bank_of as survey_bank_of,
-    whole as survey_table,
+    Finding, NotTaken, Tally, bank as survey_bank, bank_of as survey_bank_of, whole as survey_table,
 };
 
-// Check: yes exactly where every entry is best, or the first that is not.
-pub use verdict::{CheckAnswer, check as check_table};
+// Check: Ok exactly where every entry is best, or the first that is not.
+pub use verdict::{NotPassed, check as check_table};
 
 // Look up: s, n and j of a divisor.
-pub use table::{LookupAnswer, look_up};
+pub use table::{Found, look_up};
 
 // Write memory, read memory: a table as the hex memory text that Verilog's $readmemh reads, and back.
-pub use memory_text::{ReadAnswer, WriteAnswer, read_memory, write_memory};
+pub use memory_text::{ReadError, read_memory, write_memory};

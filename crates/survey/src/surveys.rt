@@ -28,7 +28,7 @@ fn survey_fields(good: GoodShape, first: u32, cells: &[u16]) -> Result<Finding, 
         }
         let j = fields.entry(f);
         let larger = larger_of(PlacedEntry { shape, n, j });
-        if most < larger.worst {
+        if most.0 < larger.worst.0 {
             most = larger.worst;
             place = n;
             middle = larger.middle;

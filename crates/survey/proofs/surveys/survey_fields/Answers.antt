@@ -9,9 +9,8 @@ use Rattle.entry.proofs.Laws.Fields.{wide_by_end, value_by_first}
 use Rattle.entry.proofs.Laws.Good.{good_field}
 use Rattle.survey.specs.Finding.{Figures, entry_figures}
 use Rattle.survey.proofs.Laws.Scan.{surveying_goes_on, surveying_stops, surveying_ends, larger_replaces, smaller_leaves}
-use Rattle.std.proofs.lemmas.Grind.{common_steps}
 use Rattle.survey.proofs.surveys.survey_fields.Goals as goal
-use Rattle.survey.proofs.surveys.survey_fields.Goals.{then-lt, else-lt}
+use Rattle.survey.proofs.surveys.survey_fields.Goals.{then-most-larger, else-most-larger}
 
 pub returns-then-is_wide : goal.returns-then-is_wide
 returns-then-is_wide c =
@@ -36,15 +35,15 @@ loop-at-preserved c =
     let is = rw (value_by_first s _ c.entry-j.ensures c.fields_of-fields.ensures.0) at c.larger_of-larger.ensures in
     let inside = c.loop-at-test.true in
     let narrow = sym (wide_by_end _ _ c.if-is_wide.ensures c.fields_of-fields.ensures.1) in
-    elim c.if-lt.branch [
-      | then-lt w ↦
+    elim c.if-most-larger.branch [
+      | then-most-larger w ↦
           rw (w.most-is, w.place-is, w.middle-is)
           (surveying_goes_on c.args.cells.now loop.invariant inside narrow
           (ap₂ (λ (worst side : ℕ). record { worst = worst; n = n; side = side }) is.0 is.1
-          ∙ larger_replaces old new (rw (← is.0) (grind (arith, common_steps)))))
-      | else-lt w ↦
+          ∙ larger_replaces old new (rw is.0 at w.if-most-larger.true)))
+      | else-most-larger w ↦
           rw (w.most-is, w.place-is, w.middle-is)
-          (surveying_goes_on c.args.cells.now loop.invariant inside narrow (smaller_leaves old new (rw (← is.0) (grind (arith, common_steps)))))
+          (surveying_goes_on c.args.cells.now loop.invariant inside narrow (smaller_leaves old new (rw is.0 at w.if-most-larger.false)))
     ]
 
 pub returns : goal.returns
