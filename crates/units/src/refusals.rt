@@ -1,7 +1,7 @@
 // The refusal table of document 01: its numbers, and its tests.
 ghost use Rattle.std.specs.Prelude.{◌≡◌, [], ◌∷◌, ◌^◌, leb, IfOk};
 ghost use Rattle.units.specs.declared.refusals.Fault.TheVariants.{Refused};
-ghost use Rattle.units.specs.Refusals.{test, reply, reply_of, refusal_number, refusal, outside, input_width, output_width, few_cells, bank_height, bank_number, place, divisor, width_tests, table_tests};
+ghost use Rattle.units.specs.Refusals.{test, reply, reply_of, fault_reply, refusal_number, refusal, outside, input_width, output_width, few_cells, bank_height, bank_number, place, divisor, width_tests, table_tests};
 
 use crate::counts::Interval;
 use crate::good::GoodShape;
@@ -48,8 +48,30 @@ pub enum Fault {
 impl From<Refusal> for Fault {
     ghost from_gives = { λ r f. f ≡ Refused r };
 
-    fn from(r: Refusal) -> Fault {
-        Fault::Refused(r)
+    fn from(r: Refusal) -> Self {
+        Self::Refused(r)
+    }
+}
+
+impl Fault {
+    // Document 01's number for it.
+    pub fn number(self) -> u32
+        ensures { result ≡ (fault_reply self).number }
+    {
+        match self {
+            Fault::TooWide(_) => 5,
+            Fault::Refused(r) => r.number(),
+        }
+    }
+
+    // The n that it names, or 0.
+    pub fn n(self) -> Interval
+        ensures { result.0 ≡ (fault_reply self).n }
+    {
+        match self {
+            Fault::TooWide(n) => n,
+            Fault::Refused(_) => Interval(0),
+        }
     }
 }
 

@@ -1,6 +1,6 @@
 -- `units::widths` meets its contract: the two tests, one after the other. Assumes nothing.
 use mathlib.Core.List.{[], ◌∷◌}
-use mathlib.Core.Path.{◌≡◌, ap, ◌∙◌}
+use mathlib.Core.Path.{◌≡◌}
 use native.Mathlib.Omega.{arith}
 use Rattle.std.specs.Prelude.{Result}
 use Rattle.std.specs.Result.{result_and}
