@@ -10,6 +10,7 @@ use crate::places::{Place, PlacedEntry};
 use units::{Fault, GoodShape, Interval, Refusal, Shape, interval_place, widths};
 
 // The tests 1, 2, and 4 for n, for every call that takes an interval.
+#[tactic(auto, using(units::proofs::Laws::Tests::refusal_numbered), unfolding(units::specs::Refusals::answer))]
 pub fn placed(shape: Shape, n: Interval) -> Result<Place, Refusal>
     ensures answer { reply_of result ≡ refusal (place_tests shape n.0) }
     ensures same { IfOk result (λ place. (place.shape ≡ shape) × (place.n ≡ n)) }

@@ -19,6 +19,7 @@ pub(crate) fn bank_at(k: u32, h: u32, b: u32) -> Range<usize>
 }
 
 // The tests 4 for h and b.
+#[tactic(auto, using(units::proofs::Laws::Tests::refusal_numbered), unfolding(units::specs::Refusals::answer))]
 fn bank_named(k: u32, h: u32, b: u32) -> Result<(), Refusal>
     ensures { reply_of result ≡ refusal (bank_name k h b) }
 {
@@ -26,6 +27,7 @@ fn bank_named(k: u32, h: u32, b: u32) -> Result<(), Refusal>
 }
 
 // The same, and 3, for every call that takes a bank of a lent table.
+#[tactic(auto, using(units::proofs::Laws::Tests::refusal_numbered), unfolding(units::specs::Refusals::answer))]
 pub(crate) fn bank_in_table(k: u32, h: u32, b: u32, lent: usize) -> Result<(), Refusal>
     ensures { reply_of result ≡ refusal (bank_place k h b lent) }
 {
@@ -33,6 +35,7 @@ pub(crate) fn bank_in_table(k: u32, h: u32, b: u32, lent: usize) -> Result<(), R
 }
 
 // The tests 1, 2, and 4 for h and b.
+#[tactic(auto, using(units::proofs::Laws::Tests::refusal_numbered), unfolding(units::specs::Refusals::answer))]
 fn namable(shape: Shape, h: u32, b: u32) -> Result<(), Refusal>
     ensures { reply_of result ≡ refusal (named_tests shape h b) }
 {

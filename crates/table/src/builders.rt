@@ -23,6 +23,7 @@ fn fill(first: Place, cells: &mut [u16])
     }
 }
 
+#[tactic(auto, using(units::proofs::Laws::Tests::refusal_numbered), unfolding(units::specs::Refusals::answer))]
 fn buildable(shape: Shape, h: u32, b: u32, lent: usize) -> Result<(), Refusal>
     ensures { reply_of result ≡ refusal (bank_tests shape h b lent) }
 {

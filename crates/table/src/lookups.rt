@@ -39,6 +39,7 @@ fn index_of(good: GoodShape, x: u32) -> usize
     ((x - 32768) >> (15 - good.shape.k)) as usize
 }
 
+#[tactic(auto, using(units::proofs::Laws::Tests::refusal_numbered), unfolding(units::specs::Refusals::answer))]
 fn findable(shape: Shape, x: u32, lent: usize) -> Result<GoodShape, Refusal>
     ensures answer { reply_of result ≡ refusal (divisor_tests shape x lent) }
     ensures same { IfOk result (λ good. good.shape ≡ shape) }

@@ -21,6 +21,7 @@ pub fn show_bank(k: u32, h: u32, b: u32, table: &[u16]) -> &[u16]
 }
 
 // "an empty stretch means refusal, and a companion call with the same inputs gives the number"
+#[tactic(auto, using(units::proofs::Laws::Tests::refusal_numbered), unfolding(units::specs::Refusals::answer))]
 pub fn show_bank_number(k: u32, h: u32, b: u32, table: &[u16]) -> Result<(), Refusal>
     ensures { reply_of result ≡ refusal (view_tests k h b (length table.now)) }
 {

@@ -56,10 +56,6 @@ answer refuse done (t ∷ ts) = cond t.holds (refuse t.gives) (answer refuse don
 abbrev pub refusal : List Test → Reply
 refusal ts = answer (λ (b : Reply). b) (reply 0 0) ts
 
--- the first of two
-abbrev pub then_reply : Reply → Reply → Reply
-then_reply first second = cond (eqb first.number 0) second first
-
 -- x is not from least to most
 unfoldable pub outside : ℕ → ℕ → ℕ → Bool
 outside least most x = ltb x least || ltb most x

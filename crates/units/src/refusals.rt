@@ -85,6 +85,7 @@ pub fn number_of(answer: Result<(), Refusal>) -> u32
     }
 }
 
+#[tactic(auto, unfolding(crate::specs::Refusals::answer))]
 fn refused_if(holds: bool, r: Refusal) -> Result<(), Refusal>
     ensures { reply_of result ≡ refusal (test holds (reply (refusal_number r) 0) ∷ []) }
 {
@@ -92,6 +93,7 @@ fn refused_if(holds: bool, r: Refusal) -> Result<(), Refusal>
 }
 
 // Whether x is not from least to most.
+#[tactic(auto, unfolding(crate::specs::Refusals::outside))]
 fn is_outside(least: u32, most: u32, x: u32) -> bool
     ensures { result ≡ outside least most x }
 {
@@ -140,13 +142,11 @@ pub fn output_width(m: u32) -> Result<(), Refusal>
 }
 
 // 3: fewer than 2^w cells lent.
+#[tactic(auto, unfolding(crate::specs::Refusals::answer))]
 pub fn few_cells(lent: usize, w: u32) -> Result<(), Refusal>
     ensures { reply_of result ≡ refusal (few_cells lent (2 ^ w) ∷ []) }
 {
-    if reaches(w, lent as u64) {
-        return Ok(());
-    }
-    Err(Refusal::FewCells)
+    refused_if(!reaches(w, lent as u64), Refusal::FewCells)
 }
 
 // 4: "h > k".
@@ -178,15 +178,18 @@ pub fn divisor_range(x: u32) -> Result<(), Refusal>
 }
 
 // 1 and 2, with which every call that takes both widths begins.
+#[tactic(auto, using(crate::proofs::Laws::Tests::refusal_numbered), unfolding(crate::specs::Refusals::answer))]
 pub fn widths(shape: Shape) -> Result<GoodShape, Refusal>
     ensures answer { reply_of result ≡ refusal (width_tests shape) }
     ensures same { IfOk result (λ good. good.shape ≡ shape) }
 {
-    input_width(shape.k).and(output_width(shape.m))?;
+    input_width(shape.k)?;
+    output_width(shape.m)?;
     Ok(GoodShape { shape })
 }
 
 // 1, 2 and 3, with which check and look up begin.
+#[tactic(auto, using(crate::proofs::Laws::Tests::refusal_numbered), unfolding(crate::specs::Refusals::answer))]
 pub fn whole_table(shape: Shape, lent: usize) -> Result<GoodShape, Refusal>
     ensures answer { reply_of result ≡ refusal (table_tests shape lent) }
     ensures same { IfOk result (λ good. good.shape ≡ shape) }

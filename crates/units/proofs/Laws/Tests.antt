@@ -33,10 +33,6 @@ refusal_numbered Divisor = omega arith
 refusal_numbered Line = omega arith
 refusal_numbered ShortText = omega arith
 
--- tests that refuse, with others after them
-pub then_refused : (r : Refusal) (next : Reply) → reply (refusal_number r) 0 ≡ then_reply (reply (refusal_number r) 0) next
-then_refused r next = simp (ne_eqb (refusal_number r) 0 (λ e. omega (arith, refusal_numbered r)))
-
 -- what is read off an answer is read off each of its cases
 cond_maps : {A B : Type 0} (g : A → B) (holds : Bool) (a b : A) {c : B} → g b ≡ c → g (cond holds a b) ≡ cond holds (g a) c
 cond_maps g true a b e = refl
@@ -90,29 +86,6 @@ unfolding answer
 answer_when refuse done done' [] e = e tt
 answer_when refuse done done' (t ∷ ts) e =
     cond_when t.holds (refuse t.gives) (λ passes. answer_when refuse done done' ts (λ rest. e (passes, rest)))
-
--- one list of tests, and another after it
-then_joins : (ts rest : List Test) → Numbered ts → refusal (ts ++ rest) ≡ then_reply (refusal ts) (refusal rest)
-unfolding answer
-then_joins [] rest p = refl
-then_joins (t ∷ ts) rest p = join t.holds t.gives p.0 (refusal (ts ++ rest)) (refusal ts) (then_joins ts rest p.1)
-  where
-    join : (holds : Bool) (gives : Reply) → 0 < gives.number → (all some : Reply) → all ≡ then_reply some (refusal rest)
-        → cond holds gives all ≡ then_reply (cond holds gives some) (refusal rest)
-    join true gives h all some e = sym (simp (ne_eqb gives.number 0 (λ z. omega arith)))
-    join false gives h all some e = e
-
--- where the first list is done, the second one counts
-reply_and : {A B : Type 0} (a : Result A Refusal) (b : Result B Refusal) → reply_of (result_and a b) ≡ then_reply (reply_of a) (reply_of b)
-reply_and (Ok x) b = refl
-reply_and (Err r) b = then_refused r (reply_of b)
-
-pub and_is : {A B : Type 0} (ts rest : List Test) → Numbered ts → (a : Result A Refusal) (b o : Result B Refusal) → o ≡ result_and a b
-    → reply_of a ≡ refusal ts
-    → reply_of b ≡ refusal rest
-    → reply_of o ≡ refusal (ts ++ rest)
-and_is ts rest p a b o both first second =
-    ap reply_of both ∙ reply_and a b ∙ ap₂ then_reply first second ∙ sym (then_joins ts rest p)
 
 -- one list passed, and the other; and back
 pub passed_parts : (ts rest : List Test) → Passed (ts ++ rest) → Passed ts × Passed rest
@@ -211,12 +184,6 @@ refused_so refuse done ts rest r tests = refused_by refuse done ts rest tests (r
 pub handed_on : {A E R : Type 0} (report : Result A E → R) (o : Result A E) (e : E) → IsErrAnd o (λ (x : E). x ≡ e) → report o ≡ report (Err e)
 handed_on report (Ok x) e is = absurd is
 handed_on report (Err x) e is = ap (λ (y : _). report (Err y)) is
-
--- so the function's answer is r's number, too
-pub refused_on : {A : Type 0} (ts rest : List Test) (o : Result A Refusal) (r : Refusal) → IsErrAnd o (λ (e : Refusal). e ≡ r)
-    → reply (refusal_number r) 0 ≡ refusal ts
-    → reply_of o ≡ refusal (ts ++ rest)
-refused_on ts rest o r is tests = handed_on reply_of o r is ∙ refused_so (λ (b : Reply). b) (reply 0 0) ts rest r tests
 
 -- they ended in a fault
 pub fault_numbered : (fault : Fault) → 0 < (fault_reply fault).number

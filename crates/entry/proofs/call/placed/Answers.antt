@@ -7,19 +7,6 @@ use Rattle.entry.specs.Report.{place_tests}
 use Rattle.entry.proofs.Laws.Good.{place_good}
 use Rattle.entry.proofs.call.placed.Goals as goal
 
-pub returns-in_err-widths-clause-answer : goal.returns-in_err-widths-clause-answer
-returns-in_err-widths-clause-answer c =
-    refused_on (width_tests c.args.shape) (place _ _ ∷ []) _ _ c.from_residual.ensures.1 c.in_err-widths.ensures.answer
-
-pub returns-in_err-interval_place-clause-answer : goal.returns-in_err-interval_place-clause-answer
-returns-in_err-interval_place-clause-answer c =
-    then_so (width_tests c.args.shape) (place _ _ ∷ []) (omega arith) c.in_ok-widths.ensures.answer
-    (refused_on (place _ _ ∷ []) [] _ _ c.from_residual-in_err-interval_place.ensures.1 c.in_err-interval_place.ensures)
-
-pub returns-clause-answer : goal.returns-clause-answer
-returns-clause-answer c =
-    then_so (width_tests c.args.shape) (place _ _ ∷ []) (omega arith) c.in_ok-widths.ensures.answer c.in_ok-interval_place.ensures
-
 pub invariant_of-result : goal.invariant_of-result
 invariant_of-result c =
     record {
