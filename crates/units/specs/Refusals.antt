@@ -1,5 +1,5 @@
 -- Document 01, "Refusal numbers and their order", and the numbers of document 02. Assumes nothing.
-use Rattle.std.specs.Prelude.{ℕ, ◌^◌, Bool, ◌||◌, cond, List, [], ◌∷◌, ◌++◌, ltb, leb, eqb, Result, Ok, Err}
+use Rattle.std.specs.Prelude.{ℕ, ◌^◌, Bool, ◌||◌, cond, List, [], ◌∷◌, ◌++◌, ltb, leb, Result, Ok, Err}
 use Rattle.units.specs.declared.refusals.Refusal.{Refusal}
 use Rattle.units.specs.declared.refusals.Refusal.TheVariants.{InputWidth, OutputWidth, FewCells, Place, Divisor, Line, ShortText}
 use Rattle.units.specs.declared.refusals.Fault.{Fault}

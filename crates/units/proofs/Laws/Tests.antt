@@ -2,15 +2,14 @@
 use Prim.Native.Nat.{ℕ, ◌≤◌, ◌<◌}
 use mathlib.Core.Bool.{Bool, true, false, cond, ◌||◌, false≢true}
 use mathlib.Core.List.{List, [], ◌∷◌, ◌++◌}
-use mathlib.Core.Path.{◌≡◌, refl, sym, ap, ap₂, ◌∙◌}
+use mathlib.Core.Path.{◌≡◌, refl, sym, ap, ◌∙◌}
 use native.Mathlib.Omega.{arith}
-use borrow.Author.Tests.{ltb-false, le-ltb, ne_eqb, eqb-false}
+use borrow.Author.Tests.{ltb-false, le-ltb, eqb-false}
 use lib.Dec.{ltb, eqb}
 use Rattle.units.specs.declared.refusals.Fault.{Fault}
 use Rattle.units.specs.declared.refusals.Fault.TheVariants.{TooWide, Refused}
-use Rattle.units.specs.Refusals.{Reply, reply, reply_of, fault_reply, refusal_number, Test, answer, refusal, then_reply, outside}
+use Rattle.units.specs.Refusals.{Reply, reply, fault_reply, refusal_number, Test, answer, refusal, outside}
 use Rattle.std.specs.Prelude.{Result, Ok, Err, IsErrAnd}
-use Rattle.std.specs.Result.{result_and}
 use Rattle.units.specs.declared.refusals.Refusal.{Refusal}
 use Rattle.units.specs.declared.refusals.Refusal.TheVariants.{InputWidth, OutputWidth, FewCells, Place, Divisor, Line, ShortText}
 
