@@ -2,7 +2,7 @@
 use mathlib.Core.List.{[], ◌∷◌}
 use native.Mathlib.Omega.{arith}
 use Rattle.units.specs.Refusals.{width_tests, place}
-use Rattle.units.proofs.Laws.Tests.{refused_on, then_so, done_so}
+use Rattle.units.proofs.Laws.Tests.{then_so, done_so}
 use Rattle.entry.specs.Report.{place_tests}
 use Rattle.entry.proofs.Laws.Good.{place_good}
 use Rattle.entry.proofs.call.placed.Goals as goal
