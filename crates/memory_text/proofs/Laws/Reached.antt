@@ -1,7 +1,8 @@
 -- How far a reading has come: what is left of the text, from the address and the cells that it has reached, comes to what the whole text
 -- comes to. Assumes nothing.
 use Prim.Native.Nat.{ℕ, ◌^◌, ◌≤◌}
-use mathlib.Core.Bool.{Bool, true, false, cond, not, ◌&&◌, false≢true}
+use Rattle.std.specs.Prelude.{Result, Err}
+use mathlib.Core.Bool.{Bool, true, false, cond, not, ◌&&◌}
 use mathlib.Core.List.{List, [], ◌∷◌}
 use mathlib.Core.Path.{◌≡◌, refl, sym, ap, ap₂, ◌∙◌}
 use native.Mathlib.Omega.{arith}
@@ -18,13 +19,13 @@ use Rattle.entry.specs.Fields.{fields_end, is_wide}
 use Rattle.entry.proofs.Laws.Fields.{fields_end_bound}
 use Rattle.memory_tokens.specs.Tokens.{outside}
 use Rattle.memory_tokens.specs.Words.{Saying, saying}
-use Rattle.memory_text.specs.Read.{Reading, missing, is_missing, token_tests, next_address, next_cells, stopped, ended, obeyed, reading}
+use Rattle.memory_text.specs.Read.{Reading, reported, missing, is_missing, token_tests, next_address, next_cells, stopped, ended, obeyed, reading}
 use Rattle.memory_tokens.specs.Inner.Places.{tokens_from, capped, says, capped_saying, IsFaulty, SaysSo}
 use Rattle.memory_text.specs.Inner.Steps.{count_given, Came, GoesOn, Stops}
-use Rattle.memory_text.specs.declared.reading.ReadAnswer.{ReadAnswer}
-use Rattle.memory_text.specs.declared.reading.ReadAnswer.TheVariants.{BadToken}
+use Rattle.memory_text.specs.declared.errors.ReadError.{ReadError}
+use Rattle.memory_text.specs.declared.errors.ReadError.TheVariants.{BadToken}
 use Rattle.memory_text.specs.declared.storing.Progress.{Progress}
-use Rattle.memory_tokens.specs.declared.tokens.Word.{Word}
+use Rattle.memory_tokens.specs.declared.words.Word.{Word}
 use Rattle.memory_text.proofs.Laws.Given.{count_none}
 
 -- a number that is capped fails the same tests
@@ -80,18 +81,18 @@ module _ (s : Shape) (text : List ℕ) where
 
   module _ (cells : List ℕ) (p : Progress) (at : ℕ) (r : Reached s text cells p at) where
     -- no token is left
-    pub reached_ends : (a : ReadAnswer) → tokens_from text (outside false) at ≡ [] → Came (ended cells) a cells → Came (reading s text) a cells
+    pub reached_ends : (a : Result (Unit {0}) ReadError) → tokens_from text (outside false) at ≡ [] → Came (ended cells) a cells → Came (reading s text) a cells
     unfolding obeyed
     reached_ends a none came =
         let is : ended cells ≡ reading s text = sym (ap (obeyed s p.address cells) none) ∙ r.left_is in
         rw (← is) came
 
     -- a faulty one is next
-    pub reached_bad : (from : Offset) (after : List ℕ) → IsFaulty text at from.0 → Came (reading s text) (BadToken from) after
+    pub reached_bad : (from : Offset) → IsFaulty text at from.0 → reported {A = Unit {0}} (Err (BadToken from)) ≡ (reading s text).report
     unfolding obeyed answer
-    reached_bad from after f =
+    reached_bad from f =
         let is : stopped (reply 8 f.first.offset) ≡ reading s text = sym (ap (obeyed s p.address cells) f.tokens_are ∙ rw f.bad refl) ∙ r.left_is in
-        (rw (← is, ← f.offset_is) refl, λ e. absurd (false≢true e))
+        rw (← is, ← f.offset_is) refl
 
     module _ (g : GoodWidths s) (word : Word) (end : ℕ) (next : SaysSo text at word end) where
       -- the tests of the next one are those of its number as the code holds it
@@ -107,10 +108,8 @@ module _ (s : Shape) (text : List ℕ) where
       becomes = ap (answer stopped rest) same_tests ∙ sym (ap (obeyed s p.address cells) next.tokens_are) ∙ r.left_is
 
       -- the reading stops at it
-      pub reached_stops : (a : ReadAnswer) (after : List ℕ) → Stops s p (says word) cells a → Came (reading s text) a after
-      reached_stops a after stop =
-          let is = sym (stop.stops rest) ∙ becomes in
-          (ap (λ (x : Reading). x.report) is, λ e. absurd (false≢true (sym stop.not_done ∙ e)))
+      pub reached_stops : (e : ReadError) → Stops s p (says word) cells e → reported {A = Unit {0}} (Err e) ≡ (reading s text).report
+      reached_stops e stop = ap (λ (x : Reading). x.report) (sym (stop.stops rest) ∙ becomes)
 
       -- or goes on after it
       pub reached_on : (after : List ℕ) (q : Progress) → GoesOn s p (says word) cells after q → Reached s text after q end
