@@ -26,14 +26,17 @@ abbrev pub faulty : Reply → Report
 faulty b = record { number = b.number; offset = b.n; n = 0 }
 
 -- what each case of the answer says in the documents' numbers
+abbrev pub error_report : ReadError → Report
+error_report (BadToken at) = faulty (reply 8 at.0)
+error_report (PastTable at) = faulty (reply 9 at.0)
+error_report (TooWide at) = faulty (reply 5 at.0)
+error_report (GivenTwice at) = faulty (reply 10 at.0)
+error_report (Missing n) = refused (reply 11 n.0)
+error_report (Refused r) = refused (reply (refusal_number r) 0)
+
 abbrev pub reported : {A : Type 0} → Result A ReadError → Report
 reported (Ok _) = done
-reported (Err (BadToken at)) = faulty (reply 8 at.0)
-reported (Err (PastTable at)) = faulty (reply 9 at.0)
-reported (Err (TooWide at)) = faulty (reply 5 at.0)
-reported (Err (GivenTwice at)) = faulty (reply 10 at.0)
-reported (Err (Missing n)) = refused (reply 11 n.0)
-reported (Err (Refused r)) = refused (reply (refusal_number r) 0)
+reported (Err e) = error_report e
 
 -- what stands for a cell that was not given: no table has such a field
 abbrev pub missing : ℕ

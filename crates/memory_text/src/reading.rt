@@ -63,7 +63,7 @@ pub fn read_memory(shape: Shape, text: &[u8], table: &mut [u16]) -> Result<(), R
     ensures cells { table.new ≡ read_cells shape text.now table.old }
 {
     let good = whole_table(shape, table.len())?;
-    // As many as the largest table has.
+    // Cells of which none was given, as many as the largest table has.
     let mut space = [MISSING; 32768];
     let size = power(shape.k) as usize;
     read_through(good, text, &mut space[..size], table)

@@ -38,7 +38,8 @@ fn put_line(f: u16, line: &mut [u8])
     }
 }
 
-// Writes the lines of all fields, each `count` digits and a newline.
+// Writes the lines of all fields, each `count` digits and a newline. They are cut by hand, since a proof
+// knows nothing of what is written through `chunks_exact_mut`.
 fn put_lines(count: usize, cells: &[u16], text: &mut [u8])
     requires { (count ≤ 4) × (length cells.now * suc count ≤ length text.old) }
     ensures { text.new ≡ lines_of count cells.now ++ drop (length cells.now * suc count) text.old }

@@ -1,7 +1,7 @@
 -- How far a reading has come: what is left of the text, from the address and the cells that it has reached, comes to what the whole text
 -- comes to. Assumes nothing.
 use Prim.Native.Nat.{ℕ, ◌^◌, ◌≤◌}
-use Rattle.std.specs.Prelude.{Result, Err}
+use Rattle.std.specs.Prelude.{Result, Ok, Err, IsErrAnd}
 use mathlib.Core.Bool.{Bool, true, false, cond, not, ◌&&◌}
 use mathlib.Core.List.{List, [], ◌∷◌}
 use mathlib.Core.Path.{◌≡◌, refl, sym, ap, ap₂, ◌∙◌}
@@ -19,7 +19,7 @@ use Rattle.entry.specs.Fields.{fields_end, is_wide}
 use Rattle.entry.proofs.Laws.Fields.{fields_end_bound}
 use Rattle.memory_tokens.specs.Tokens.{outside}
 use Rattle.memory_tokens.specs.Words.{Saying, saying}
-use Rattle.memory_text.specs.Read.{Reading, reported, missing, is_missing, token_tests, next_address, next_cells, stopped, ended, obeyed, reading}
+use Rattle.memory_text.specs.Read.{Reading, error_report, missing, is_missing, token_tests, next_address, next_cells, stopped, ended, obeyed, reading}
 use Rattle.memory_tokens.specs.Inner.Places.{tokens_from, capped, says, capped_saying, IsFaulty, SaysSo}
 use Rattle.memory_text.specs.Inner.Steps.{count_given, Came, GoesOn, Stops}
 use Rattle.memory_text.specs.declared.errors.ReadError.{ReadError}
@@ -53,6 +53,13 @@ capped_tests s a cells t g =
     (capped_place (2 ^ s.k) a t.value t.address (omega (arith, pow_mono g.narrow_in)))
     (capped_wide s t.value g)
 
+-- what `?` hands on comes to what its error says
+pub came_on : {A : Type 0} (r : Reading) (o : Result A ReadError) (e : ReadError) (after : List ℕ) → IsErrAnd o (λ (x : ReadError). x ≡ e)
+    → error_report e ≡ r.report
+    → Came r o after
+came_on r (Ok x) e after is same = absurd is
+came_on r (Err x) e after is same = (ap error_report is ∙ same, tt)
+
 -- a token leaves as many cells as there were
 pub next_length : (a : ℕ) (cells : List ℕ) (t : Saying) → length (next_cells a cells t) ≡ length cells
 next_length a cells t = by_kind t.address
@@ -64,7 +71,6 @@ next_length a cells t = by_kind t.address
 pub record Reached (s : Shape) (text cells : List ℕ) (p : Progress) (at : ℕ) : Type 0 where
   pub size : length cells ≡ 2 ^ s.k
   pub within : at ≤ length text
-  pub near : p.address ≤ 2 ^ s.k
   pub counted : p.given ≡ count_given cells
   pub left_is : obeyed s p.address cells (tokens_from text (outside false) at) ≡ reading s text
 
@@ -74,7 +80,6 @@ module _ (s : Shape) (text : List ℕ) where
       record {
         size = ap length is ∙ length-replicate (2 ^ s.k) missing;
         within = omega arith;
-        near = omega arith;
         counted = sym (ap count_given is ∙ count_none (2 ^ s.k));
         left_is = rw is refl;
       }
@@ -88,7 +93,7 @@ module _ (s : Shape) (text : List ℕ) where
         rw (← is) came
 
     -- a faulty one is next
-    pub reached_bad : (from : Offset) → IsFaulty text at from.0 → reported {A = Unit {0}} (Err (BadToken from)) ≡ (reading s text).report
+    pub reached_bad : (from : Offset) → IsFaulty text at from.0 → error_report (BadToken from) ≡ (reading s text).report
     unfolding obeyed answer
     reached_bad from f =
         let is : stopped (reply 8 f.first.offset) ≡ reading s text = sym (ap (obeyed s p.address cells) f.tokens_are ∙ rw f.bad refl) ∙ r.left_is in
@@ -108,8 +113,8 @@ module _ (s : Shape) (text : List ℕ) where
       becomes = ap (answer stopped rest) same_tests ∙ sym (ap (obeyed s p.address cells) next.tokens_are) ∙ r.left_is
 
       -- the reading stops at it
-      pub reached_stops : (e : ReadError) → Stops s p (says word) cells e → reported {A = Unit {0}} (Err e) ≡ (reading s text).report
-      reached_stops e stop = ap (λ (x : Reading). x.report) (sym (stop.stops rest) ∙ becomes)
+      pub reached_stops : (e : ReadError) → Stops s p (says word) cells e → error_report e ≡ (reading s text).report
+      reached_stops e stop = ap (λ (x : Reading). x.report) (sym (stop rest) ∙ becomes)
 
       -- or goes on after it
       pub reached_on : (after : List ℕ) (q : Progress) → GoesOn s p (says word) cells after q → Reached s text after q end
@@ -122,7 +127,6 @@ module _ (s : Shape) (text : List ℕ) where
           record {
             size = ap length on.cells_are ∙ next_length p.address cells (says word) ∙ r.size;
             within = next.within;
-            near = on.near;
             counted = on.counted r.counted;
             left_is =
                 ap₂ (λ (a : ℕ) (cs : List ℕ). obeyed s a cs (tokens_from text (outside false) end)) (on.address_is ∙ ap (next_address p.address) it)

@@ -49,7 +49,7 @@ read_answer_of r =
     (cond (eqb r.number 11) (Err (Missing (record { 0 = r.n })))
     (by_number r.number (Ok tt) (Err (TooWide (record { 0 = r.offset }))) (λ (r : Refusal). Err (Refused r))))))
 
-refused_read_reads : (r : Refusal) → read_answer_of (Read.reported {A = Unit {0}} (Err (Refused r))) ≡ Err (Refused r)
+refused_read_reads : (r : Refusal) → read_answer_of (Read.error_report (Refused r)) ≡ Err (Refused r)
 unfolding read_answer_of
 refused_read_reads InputWidth = refl
 refused_read_reads OutputWidth = refl

@@ -3,7 +3,7 @@ use Rattle.std.specs.Prelude.{ℕ, ◌+◌, ◌^◌, ◌≤◌, ◌<◌, cond, L
 use Rattle.units.specs.Refusals.{answer}
 use Rattle.units.specs.declared.shapes.Shape.{Shape}
 use Rattle.memory_tokens.specs.Words.{Saying}
-use Rattle.memory_text.specs.Read.{Reading, reported, is_missing, token_tests, next_address, next_cells, stopped}
+use Rattle.memory_text.specs.Read.{Reading, error_report, reported, is_missing, token_tests, next_address, next_cells, stopped}
 use Rattle.memory_text.specs.declared.errors.ReadError.{ReadError}
 use Rattle.memory_text.specs.declared.storing.Progress.{Progress}
 
@@ -25,8 +25,9 @@ pub record GoesOn (s : Shape) (before : Progress) (t : Saying) (cells after : Li
   pub small : t.value < 65536
   pub counted : before.given ≡ count_given cells → next.given ≡ count_given after
 
-pub record Stops (s : Shape) (before : Progress) (t : Saying) (cells : List ℕ) (e : ReadError) : Type 0 where
-  pub stops : (done : Reading) → answer stopped done (token_tests s before.address cells t) ≡ record { report = reported {A = Progress} (Err e); fields = [] }
+abbrev pub Stops : Shape → Progress → Saying → List ℕ → ReadError → Type 0
+Stops s before t cells e =
+    (done : Reading) → answer stopped done (token_tests s before.address cells t) ≡ record { report = error_report e; fields = [] }
 
 abbrev pub Obeyed : Shape → Progress → Saying → List ℕ → List ℕ → Result Progress ReadError → Type 0
 Obeyed s before t cells after (Ok next) = GoesOn s before t cells after next

@@ -1,9 +1,8 @@
 -- `memory_text::obey_all` meets its contract: what a token leaves of the text comes to what the whole text comes to. Assumes nothing.
 use native.Mathlib.Omega.{arith}
 use lib.Pow.{pow_mono}
-use Rattle.memory_text.proofs.Laws.Came.{came_on}
 use Rattle.memory_text.proofs.Laws.Given.{count_within}
-use Rattle.memory_text.proofs.Laws.Reached.{reached_starts, reached_ends, reached_bad, reached_stops, reached_on}
+use Rattle.memory_text.proofs.Laws.Reached.{came_on, reached_starts, reached_ends, reached_bad, reached_stops, reached_on}
 use Rattle.memory_text.proofs.reading.obey_all.Goals as goal
 
 pub loop-word-init : goal.loop-word-init

@@ -36,7 +36,7 @@ pub returns-then-cells-next : goal.returns-then-cells-next
 returns-then-cells-next c =
     let a = c.args in
     rw c.in-Address.is
-    record { stops = address_past a.good.shape a.before.address a.cells.now _ refl refl (past a.good.shape _ c.requires.0 _ c.if-cells-next.true) }
+    (address_past a.good.shape a.before.address a.cells.now _ refl refl (past a.good.shape _ c.requires.0 _ c.if-cells-next.true))
 
 pub returns-else-cells-next : goal.returns-else-cells-next
 returns-else-cells-next c =
@@ -55,28 +55,22 @@ pub returns-then-cells-address : goal.returns-then-cells-address
 returns-then-cells-address c =
     let a = c.args in
     rw c.in-Value.is
-    record { stops = value_past a.good.shape _ a.cells.now _ refl refl (past a.good.shape _ c.requires.0 _ c.if-cells-address.true) }
+    (value_past a.good.shape _ a.cells.now _ refl refl (past a.good.shape _ c.requires.0 _ c.if-cells-address.true))
 
 pub returns-then-fields_of-value : goal.returns-then-fields_of-value
 returns-then-fields_of-value c =
     let a = c.args in
     rw c.in-Value.is
-    record {
-      stops =
-          value_wide a.good.shape _ a.cells.now _ refl refl (near a.good.shape _ c.requires.0 _ c.if-cells-address.false)
-          (wide a.good.shape _ _ c.fields_of.ensures.1 c.if-fields_of-value.true);
-    }
+    (value_wide a.good.shape _ a.cells.now _ refl refl (near a.good.shape _ c.requires.0 _ c.if-cells-address.false)
+    (wide a.good.shape _ _ c.fields_of.ensures.1 c.if-fields_of-value.true))
 
 pub returns-then-cells-address-2 : goal.returns-then-cells-address-2
 returns-then-cells-address-2 c =
     let a = c.args in
     rw c.in-Value.is
-    record {
-      stops =
-          value_twice a.good.shape _ a.cells.now _ refl refl (near a.good.shape _ c.requires.0 _ c.if-cells-address.false)
-          (narrow a.good.shape _ _ c.fields_of.ensures.1 c.if-fields_of-value.false)
-          (is_given _ c.if-cells-address-2.true);
-    }
+    (value_twice a.good.shape _ a.cells.now _ refl refl (near a.good.shape _ c.requires.0 _ c.if-cells-address.false)
+    (narrow a.good.shape _ _ c.fields_of.ensures.1 c.if-fields_of-value.false)
+    (is_given _ c.if-cells-address-2.true))
 
 pub overflow_cast-cells : goal.overflow_cast-cells
 overflow_cast-cells c =
