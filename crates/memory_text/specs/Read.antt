@@ -1,13 +1,13 @@
 -- The answer of "Read memory", and the cells that it leaves. Document 02, L2. Assumes nothing.
-use Rattle.std.specs.Prelude.{ℕ, suc, ◌^◌, Bool, not, ◌&&◌, cond, List, [], ◌∷◌, ◌++◌, leb, eqb, length, drop, get_or, set, replicate}
+use Rattle.std.specs.Prelude.{ℕ, suc, ◌^◌, Bool, not, ◌&&◌, cond, List, [], ◌∷◌, ◌++◌, leb, eqb, length, drop, get_or, set, replicate, Result, Ok, Err}
 use Rattle.units.specs.Refusals.{Reply, reply, Test, test, answer, refusal_number, table_tests}
 use Rattle.units.specs.declared.shapes.Shape.{Shape}
 use Rattle.entry.specs.Fields.{is_wide}
 use Rattle.table.specs.First.{any_of, first_of}
 use Rattle.memory_tokens.specs.Tokens.{Token, tokens}
 use Rattle.memory_tokens.specs.Words.{Saying, saying}
-use Rattle.memory_text.specs.declared.reading.ReadAnswer.{ReadAnswer}
-use Rattle.memory_text.specs.declared.reading.ReadAnswer.TheVariants.{Done, BadToken, PastTable, TooWide, GivenTwice, Missing, Refused}
+use Rattle.memory_text.specs.declared.errors.ReadError.{ReadError}
+use Rattle.memory_text.specs.declared.errors.ReadError.TheVariants.{BadToken, PastTable, TooWide, GivenTwice, Missing, Refused}
 
 -- The number, "the offset of its first byte" with 8, 9, 5 and 10, and "the smallest missing n" with 11. Values that an answer
 -- does not use are zero.
@@ -26,14 +26,17 @@ abbrev pub faulty : Reply → Report
 faulty b = record { number = b.number; offset = b.n; n = 0 }
 
 -- what each case of the answer says in the documents' numbers
-abbrev pub reported : ReadAnswer → Report
-reported Done = done
-reported (BadToken at) = faulty (reply 8 at.0)
-reported (PastTable at) = faulty (reply 9 at.0)
-reported (TooWide at) = faulty (reply 5 at.0)
-reported (GivenTwice at) = faulty (reply 10 at.0)
-reported (Missing n) = refused (reply 11 n.0)
-reported (Refused r) = refused (reply (refusal_number r) 0)
+abbrev pub error_report : ReadError → Report
+error_report (BadToken at) = faulty (reply 8 at.0)
+error_report (PastTable at) = faulty (reply 9 at.0)
+error_report (TooWide at) = faulty (reply 5 at.0)
+error_report (GivenTwice at) = faulty (reply 10 at.0)
+error_report (Missing n) = refused (reply 11 n.0)
+error_report (Refused r) = refused (reply (refusal_number r) 0)
+
+abbrev pub reported : {A : Type 0} → Result A ReadError → Report
+reported (Ok _) = done
+reported (Err e) = error_report e
 
 -- what stands for a cell that was not given: no table has such a field
 abbrev pub missing : ℕ

@@ -1,12 +1,12 @@
 -- The memory text of a table, and the answer of "Write memory". Document 02, L2. Assumes nothing.
-use Rattle.std.specs.Prelude.{ℕ, zero, suc, ◌+◌, ◌/◌, ◌%◌, ◌^◌, List, [], ◌∷◌, ◌++◌, cond, ltb, length, take, drop}
+use Rattle.std.specs.Prelude.{ℕ, zero, suc, ◌+◌, ◌/◌, ◌%◌, ◌^◌, List, [], ◌∷◌, ◌++◌, cond, ltb, length, take, drop, Result, Ok, Err}
 use Rattle.units.specs.Kinds.{field_bits}
-use Rattle.units.specs.Refusals.{Reply, reply, Test, answer, refusal_number, short_text}
+use Rattle.units.specs.Refusals.{Reply, fault_reply, Test, answer, short_text}
+use Rattle.units.specs.declared.counts.Offset.{Offset}
+use Rattle.units.specs.declared.refusals.Fault.{Fault}
 use Rattle.units.specs.declared.shapes.Shape.{Shape}
 use Rattle.table.specs.Wide.{field_tests}
 use Rattle.memory_tokens.specs.Tokens.{newline}
-use Rattle.memory_text.specs.declared.writing.WriteAnswer.{WriteAnswer}
-use Rattle.memory_text.specs.declared.writing.WriteAnswer.TheVariants.{Written, TooWide, Refused}
 
 -- "lower-case hex": the byte of a digit below 16, 0 to 9 and then a to f
 abbrev pub hex_digit : ℕ → ℕ
@@ -47,10 +47,9 @@ abbrev pub written : ℕ → Report
 written length = record { number = 0; length = length; n = 0 }
 
 -- what each case of the answer says in the documents' numbers
-abbrev pub reported : WriteAnswer → Report
-reported (Written end) = written end.0
-reported (TooWide n) = refused (reply 5 n.0)
-reported (Refused r) = refused (reply (refusal_number r) 0)
+abbrev pub reported : Result Offset Fault → Report
+reported (Ok end) = written end.0
+reported (Err fault) = refused (fault_reply fault)
 
 -- "Refusals: 1, 2, 3 first. The writer then gives 5, then 17 if the lent text buffer is too short"
 abbrev pub write_tests : Shape → List ℕ → ℕ → List Test

@@ -1,13 +1,15 @@
 // What a token does to the address and the cells.
 ghost use Rattle.std.specs.Prelude.{◌≡◌, ◌≤◌, ◌^◌, length};
-ghost use Rattle.units.specs.Inner.Good.{GoodWidths};
 ghost use Rattle.memory_tokens.specs.Inner.Places.{says};
 ghost use Rattle.memory_text.specs.Inner.Steps.{Obeyed};
 
-use crate::reading::ReadAnswer;
+use crate::errors::ReadError;
 use entry::fields_of;
-use memory_tokens::Word;
-use units::Shape;
+use memory_tokens::{Said, Word};
+use units::GoodShape;
+
+// What stands for a cell that was not given: no table has such a field.
+pub(crate) const MISSING: u16 = 65535;
 
 // How far a reading has come: where the next value goes, and how many cells were given.
 #[derive(Clone, Copy)]
@@ -16,43 +18,43 @@ pub(crate) struct Progress {
     pub given: usize,
 }
 
-#[derive(Clone, Copy)]
-pub(crate) enum Step {
-    On(Progress),
-    Stop(ReadAnswer),
-}
-
 // Obeys a token: an address is the next one, and a value is stored. Nothing is stored where it stops.
-pub(crate) fn obey(shape: Shape, before: Progress, word: Word, cells: &mut [u16]) -> Step
-    requires good_widths { (GoodWidths shape) × ((length cells.old ≡ 2 ^ shape.k) × (word.value ≤ 65536)) }
-    requires address_bound { (before.address ≤ 65536) × (before.given ≤ 65536) }
-    ensures { Obeyed shape before (says word) cells.old cells.new result }
+pub(crate) fn obey(
+    good: GoodShape,
+    before: Progress,
+    word: Word,
+    cells: &mut [u16],
+) -> Result<Progress, ReadError>
+    requires { (length cells.old ≡ 2 ^ good.shape.k) × (before.given ≤ 65536) }
+    ensures { Obeyed good.shape before (says word) cells.old cells.new result }
 {
     let from = word.from;
-    let value = word.value;
-    let given = before.given;
-    if word.address {
-        if cells.len() <= value as usize {
-            return Step::Stop(ReadAnswer::PastTable(from));
+    let Progress { address, given } = before;
+    match word.says {
+        Said::Address(next) => {
+            if cells.len() <= next as usize {
+                return Err(ReadError::PastTable(from));
+            }
+            Ok(Progress {
+                address: next as usize,
+                given,
+            })
         }
-        return Step::On(Progress {
-            address: value as usize,
-            given: given,
-        });
+        Said::Value(value) => {
+            if cells.len() <= address {
+                return Err(ReadError::PastTable(from));
+            }
+            if fields_of(good).end <= value {
+                return Err(ReadError::TooWide(from));
+            }
+            if cells[address] != MISSING {
+                return Err(ReadError::GivenTwice(from));
+            }
+            cells[address] = value as u16;
+            Ok(Progress {
+                address: address + 1,
+                given: given + 1,
+            })
+        }
     }
-    let address = before.address;
-    if cells.len() <= address {
-        return Step::Stop(ReadAnswer::PastTable(from));
-    }
-    if fields_of(shape).end <= value {
-        return Step::Stop(ReadAnswer::TooWide(from));
-    }
-    if cells[address] != 65535 {
-        return Step::Stop(ReadAnswer::GivenTwice(from));
-    }
-    cells[address] = value as u16;
-    Step::On(Progress {
-        address: address + 1,
-        given: given + 1,
-    })
 }

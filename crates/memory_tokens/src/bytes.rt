@@ -1,55 +1,44 @@
 // Single bytes of a memory text.
 ghost use Rattle.std.specs.Prelude.{◌≡◌, suc, ◌<◌, length, drop, get_or};
 ghost use Rattle.memory_tokens.specs.Tokens.{is_white, opens as Tokens·opens, ends};
-ghost use Rattle.memory_tokens.specs.Words.{digit_of};
+ghost use Rattle.memory_tokens.specs.Inner.Places.{IsDigit};
 
 // "white space (blank, tab, newline, form feed)".
+#[tactic(auto, unfolding(crate::specs::Tokens::is_white))]
 pub(crate) fn is_white(b: u8) -> bool
     ensures { result ≡ is_white b }
 {
-    (b == 32) | ((b == 9) | ((b == 10) | (b == 12)))
+    matches!(b, b' ' | b'\t' | b'\n' | b'\x0c')
 }
 
-// What a byte shows, or 16 where it is no digit.
-pub(crate) fn digit_of(b: u8) -> u32
-    ensures { result ≡ digit_of b }
+// What a byte shows, if it is a digit.
+#[tactic(auto, unfolding(crate::specs::Words::digit_of))]
+pub(crate) fn digit_of(b: u8) -> Option<u32>
+    ensures { IsDigit b result }
 {
-    if (48 <= b) & (b <= 57) {
-        return (b - 48) as u32;
+    match b {
+        // It takes one comparison, where the range as a pattern takes two.
+        _ if b.is_ascii_digit() => Some((b - b'0') as u32),
+        b'A'..=b'F' => Some((b - b'A') as u32 + 10),
+        b'a'..=b'f' => Some((b - b'a') as u32 + 10),
+        _ => None,
     }
-    if (65 <= b) & (b <= 70) {
-        return (b - 55) as u32;
-    }
-    if (97 <= b) & (b <= 102) {
-        return (b - 87) as u32;
-    }
-    16
 }
 
 // Whether a comment begins at a place: a slash, and this byte after it.
+#[tactic(auto, unfolding(crate::specs::Tokens::opens))]
 pub(crate) fn opens(text: &[u8], at: usize, second: u8) -> bool
     requires { (at < length text.now) × (0 < second) }
     ensures { result ≡ Tokens·opens second (get_or text.now at 0) (drop (suc at) text.now) }
 {
-    if text[at] != 47 {
-        return false;
-    }
-    if text.len() - at < 2 {
-        return false;
-    }
-    text[at + 1] == second
+    text[at] == b'/' && text.get(at + 1) == Some(&second)
 }
 
 // Whether a token ends before a place.
+#[tactic(auto, unfolding(crate::specs::Tokens::ends))]
 pub(crate) fn ends_before(text: &[u8], at: usize) -> bool
     requires { at < length text.now }
     ensures { result ≡ ends (get_or text.now at 0) (drop (suc at) text.now) }
 {
-    if is_white(text[at]) {
-        return true;
-    }
-    if opens(text, at, 47) {
-        return true;
-    }
-    opens(text, at, 42)
+    is_white(text[at]) || opens(text, at, b'/') || opens(text, at, b'*')
 }

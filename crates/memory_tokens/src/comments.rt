@@ -1,88 +1,71 @@
 // White space and comments, which stand between the tokens.
-ghost use Rattle.std.specs.Prelude.{◌≡◌, ◌≤◌, ◌<◌, length};
-ghost use Rattle.memory_tokens.specs.Tokens.{closes as Tokens·closes};
-ghost use Rattle.memory_tokens.specs.Inner.Places.{CommentEnds, CommentAt, GapEnds};
+ghost use Rattle.std.specs.Prelude.{◌≡◌, ◌+◌, ◌≤◌, ◌<◌, true, false, length};
+ghost use Rattle.memory_tokens.specs.Tokens.{comment};
+ghost use Rattle.memory_tokens.specs.Inner.Places.{Left, CommentEnds, CommentAt, GapEnds};
 
 use crate::bytes::{is_white, opens};
+use crate::words::Faulty;
+use units::Offset;
 
-// A comment at a place: there is none, or the place after it, or it has no end.
-#[derive(Clone, Copy)]
-pub(crate) enum Comment {
-    NoComment,
-    UpTo(usize),
-    Unclosed,
-}
-
-// What stands after a gap between tokens.
-#[derive(Clone, Copy)]
-pub(crate) enum Gap {
-    TextEnd,
-    Unfinished(usize),
-    TokenAt(usize),
-}
-
-// Whether the byte b at `at` is the last of a comment.
-fn closes(line: bool, from: usize, starred: bool, at: usize, b: u8) -> bool
-    requires { from ≤ at }
-    ensures { result ≡ Tokens·closes line from starred at b }
-{
-    if line {
-        return b == 10;
-    }
-    (b == 47) & (starred & (3 <= at - from))
-}
-
-// The place after the comment that begins at `from`.
-fn comment_end(text: &[u8], from: usize, line: bool) -> Comment
+// The place after the comment to the end of the line that begins at `from`.
+fn line_end(text: &[u8], from: usize) -> usize
     requires { from < length text.now }
-    ensures { CommentEnds text.now line from result }
+    ensures { CommentEnds text.now true from (Ok result) }
 {
-    let mut starred = false;
-    let mut at = from + 1;
-    while at < text.len() {
-        let b = text[at];
-        if closes(line, from, starred, at, b) {
-            return Comment::UpTo(at + 1);
+    for at in from + 1..text.len() {
+        if text[at] == b'\n' {
+            return at + 1;
         }
-        starred = b == 42;
-        at += 1;
     }
-    if line {
-        return Comment::UpTo(at);
-    }
-    Comment::Unclosed
+    text.len()
 }
 
-// A comment of either kind, if one begins at a place.
-fn comment_at(text: &[u8], at: usize) -> Comment
+// The place after the comment to a star and a slash that begins at `from`.
+fn block_end(text: &[u8], from: usize) -> Result<usize, Faulty>
+    requires { from < length text.now }
+    ensures { CommentEnds text.now false from result }
+{
+    // Whether the byte before is a star. The slash after it is the fourth byte at the least, since `/*/` is
+    // not finished.
+    let mut starred = false;
+    for at in from + 1..text.len() {
+        if text[at] == b'/' && starred && 3 <= at - from {
+            return Ok(at + 1);
+        }
+        starred = text[at] == b'*';
+    }
+    Err(Faulty(Offset(from)))
+}
+
+// The place after a comment of either kind, if one begins here.
+fn comment_at(text: &[u8], at: usize) -> Result<Option<usize>, Faulty>
     requires { at < length text.now }
     ensures { CommentAt text.now at result }
 {
-    if opens(text, at, 47) {
-        return comment_end(text, at, true);
+    if opens(text, at, b'/') {
+        return Ok(Some(line_end(text, at)));
     }
-    if opens(text, at, 42) {
-        return comment_end(text, at, false);
+    if opens(text, at, b'*') {
+        return Ok(Some(block_end(text, at)?));
     }
-    Comment::NoComment
+    Ok(None)
 }
 
-// Passes white space and comments.
-pub(crate) fn gap_end(text: &[u8], from: usize) -> Gap
+// The place of the next token, if there is one: white space and comments are passed.
+pub(crate) fn gap_end(text: &[u8], from: usize) -> Result<Option<usize>, Faulty>
     requires { from ≤ length text.now }
     ensures { GapEnds text.now from result }
 {
+    // No `for`, since a comment is passed as a whole.
     let mut at = from;
     while at < text.len() {
         if is_white(text[at]) {
             at += 1;
+        } else if let Some(end) = comment_at(text, at)? {
+            at = end;
         } else {
-            match comment_at(text, at) {
-                Comment::NoComment => return Gap::TokenAt(at),
-                Comment::UpTo(end) => at = end,
-                Comment::Unclosed => return Gap::Unfinished(at),
-            }
+            return Ok(Some(at));
         }
     }
-    Gap::TextEnd
+    Ok(None)
 }

@@ -6,5 +6,7 @@ mod bytes;
 mod comments;
 mod numerals;
 mod tokens;
+mod words;
 
-pub use tokens::{Next, Word, next_token};
+pub use tokens::next_token;
+pub use words::{Faulty, Said, Word};

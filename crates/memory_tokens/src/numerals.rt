@@ -6,9 +6,9 @@ use crate::bytes::{digit_of, ends_before};
 
 // What the digits at a place show, and the place after them.
 #[derive(Clone, Copy)]
-pub(crate) enum Numeral {
-    NoNumber,
-    Shows { value: u32, end: usize },
+pub(crate) struct Numeral {
+    pub value: u32,
+    pub end: usize,
 }
 
 // One digit more. What is past every table and every field is 65536, however many digits there are.
@@ -20,43 +20,33 @@ fn grown(value: u32, digit: u32) -> u32
     if next < 65536 { next } else { 65536 }
 }
 
-// The digits and underscores from a place on, after others that showed `before`.
-fn rest_shown(text: &[u8], from: usize, before: u32) -> Numeral
+// The digits and underscores from a place to the token's end, after others that showed `before`, if no
+// other byte stands there.
+fn rest_shown(text: &[u8], from: usize, before: u32) -> Option<Numeral>
     requires { (from ≤ length text.now) × (before ≤ 65536) }
     ensures { RestShown text.now from before result }
 {
     let mut value = before;
-    let mut at = from;
-    while at < text.len() {
-        let digit = digit_of(text[at]);
-        if digit < 16 {
-            value = grown(value, digit);
-            at += 1;
-        } else if text[at] == 95 {
-            at += 1;
-        } else if ends_before(text, at) {
-            break;
-        } else {
-            return Numeral::NoNumber;
+    for at in from..text.len() {
+        match digit_of(text[at]) {
+            Some(digit) => value = grown(value, digit),
+            None if text[at] == b'_' => {}
+            None if ends_before(text, at) => return Some(Numeral { value, end: at }),
+            None => return None,
         }
     }
-    Numeral::Shows {
-        value: value,
-        end: at,
-    }
+    Some(Numeral {
+        value,
+        end: text.len(),
+    })
 }
 
-// "underscores after a first digit".
-pub(crate) fn numeral_at(text: &[u8], from: usize) -> Numeral
+// "underscores after a first digit", if a token is that from a place on.
+pub(crate) fn numeral_at(text: &[u8], from: usize) -> Option<Numeral>
     requires { from ≤ length text.now }
     ensures { NumeralAt text.now from result }
 {
-    if text.len() <= from {
-        return Numeral::NoNumber;
-    }
-    let digit = digit_of(text[from]);
-    if 16 <= digit {
-        return Numeral::NoNumber;
-    }
+    let first = *text.get(from)?;
+    let digit = digit_of(first)?;
     rest_shown(text, from + 1, digit)
 }

@@ -1,60 +1,42 @@
 // The tokens of a memory text, one after the other.
 ghost use Rattle.std.specs.Prelude.{◌≡◌, false, ◌≤◌, ◌<◌, length};
-ghost use Rattle.memory_tokens.specs.Inner.Places.{ends_at, said as Places·said, NextToken};
+ghost use Rattle.memory_tokens.specs.Inner.Places.{ends_at, TokenAt, NextToken};
 
-use crate::comments::{Gap, gap_end};
-use crate::numerals::{Numeral, numeral_at};
+use crate::comments::gap_end;
+use crate::numerals::numeral_at;
+use crate::words::{Faulty, Said, Word};
 use units::Offset;
 
-// What a token says: where it begins, whether it is an address, and its number.
-#[derive(Clone, Copy)]
-pub struct Word {
-    pub from: Offset,
-    pub address: bool,
-    pub value: u32,
-}
-
-// The next token, and the place after it.
-#[derive(Clone, Copy)]
-pub enum Next {
-    NoMore,
-    Faulty(Offset),
-    Says(Word, usize),
-}
-
-// What a token at a place says by its number.
-fn said(from: usize, address: bool, numeral: Numeral) -> Next
-    ensures { result ≡ Places·said from address numeral }
-{
-    match numeral {
-        Numeral::NoNumber => Next::Faulty(Offset(from)),
-        Numeral::Shows { value, end } => Next::Says(
-            Word {
-                from: Offset(from),
-                address: address,
-                value: value,
-            },
-            end,
-        ),
-    }
-}
-
-// The token at a place: an address after an @, or a value.
-fn token_at(text: &[u8], from: usize) -> Next
+// The token at a place, an address after an @ or a value, and the place after it.
+fn token_at(text: &[u8], from: usize) -> Result<(Word, usize), Faulty>
     requires { (from < length text.now) × (ends_at text.now from ≡ false) }
-    ensures { NextToken text.now from result }
+    ensures { TokenAt text.now from result }
 {
-    let address = text[from] == 64;
-    said(from, address, numeral_at(text, from + address as usize))
+    let address = text[from] == b'@';
+    let Some(numeral) = numeral_at(text, from + address as usize) else {
+        return Err(Faulty(Offset(from)));
+    };
+    let says = if address {
+        Said::Address(numeral.value)
+    } else {
+        Said::Value(numeral.value)
+    };
+    Ok((
+        Word {
+            from: Offset(from),
+            says,
+        },
+        numeral.end,
+    ))
 }
 
-pub fn next_token(text: &[u8], at: usize) -> Next
+// The next token, and the place after it, if there is one.
+pub fn next_token(text: &[u8], at: usize) -> Result<Option<(Word, usize)>, Faulty>
     requires { at ≤ length text.now }
     ensures { NextToken text.now at result }
 {
-    match gap_end(text, at) {
-        Gap::TextEnd => Next::NoMore,
-        Gap::Unfinished(from) => Next::Faulty(Offset(from)),
-        Gap::TokenAt(from) => token_at(text, from),
+    match gap_end(text, at)? {
+        Some(from) => Ok(Some(token_at(text, from)?)),
+        None => Ok(None),
     }
 }

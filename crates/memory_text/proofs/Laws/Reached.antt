@@ -1,7 +1,8 @@
 -- How far a reading has come: what is left of the text, from the address and the cells that it has reached, comes to what the whole text
 -- comes to. Assumes nothing.
 use Prim.Native.Nat.{ℕ, ◌^◌, ◌≤◌}
-use mathlib.Core.Bool.{Bool, true, false, cond, not, ◌&&◌, false≢true}
+use Rattle.std.specs.Prelude.{Result, Ok, Err, IsErrAnd}
+use mathlib.Core.Bool.{Bool, true, false, cond, not, ◌&&◌}
 use mathlib.Core.List.{List, [], ◌∷◌}
 use mathlib.Core.Path.{◌≡◌, refl, sym, ap, ap₂, ◌∙◌}
 use native.Mathlib.Omega.{arith}
@@ -18,13 +19,13 @@ use Rattle.entry.specs.Fields.{fields_end, is_wide}
 use Rattle.entry.proofs.Laws.Fields.{fields_end_bound}
 use Rattle.memory_tokens.specs.Tokens.{outside}
 use Rattle.memory_tokens.specs.Words.{Saying, saying}
-use Rattle.memory_text.specs.Read.{Reading, missing, is_missing, token_tests, next_address, next_cells, stopped, ended, obeyed, reading}
+use Rattle.memory_text.specs.Read.{Reading, error_report, missing, is_missing, token_tests, next_address, next_cells, stopped, ended, obeyed, reading}
 use Rattle.memory_tokens.specs.Inner.Places.{tokens_from, capped, says, capped_saying, IsFaulty, SaysSo}
 use Rattle.memory_text.specs.Inner.Steps.{count_given, Came, GoesOn, Stops}
-use Rattle.memory_text.specs.declared.reading.ReadAnswer.{ReadAnswer}
-use Rattle.memory_text.specs.declared.reading.ReadAnswer.TheVariants.{BadToken}
+use Rattle.memory_text.specs.declared.errors.ReadError.{ReadError}
+use Rattle.memory_text.specs.declared.errors.ReadError.TheVariants.{BadToken}
 use Rattle.memory_text.specs.declared.storing.Progress.{Progress}
-use Rattle.memory_tokens.specs.declared.tokens.Word.{Word}
+use Rattle.memory_tokens.specs.declared.words.Word.{Word}
 use Rattle.memory_text.proofs.Laws.Given.{count_none}
 
 -- a number that is capped fails the same tests
@@ -52,6 +53,13 @@ capped_tests s a cells t g =
     (capped_place (2 ^ s.k) a t.value t.address (omega (arith, pow_mono g.narrow_in)))
     (capped_wide s t.value g)
 
+-- what `?` hands on comes to what its error says
+pub came_on : {A : Type 0} (r : Reading) (o : Result A ReadError) (e : ReadError) (after : List ℕ) → IsErrAnd o (λ (x : ReadError). x ≡ e)
+    → error_report e ≡ r.report
+    → Came r o after
+came_on r (Ok x) e after is same = absurd is
+came_on r (Err x) e after is same = (ap error_report is ∙ same, tt)
+
 -- a token leaves as many cells as there were
 pub next_length : (a : ℕ) (cells : List ℕ) (t : Saying) → length (next_cells a cells t) ≡ length cells
 next_length a cells t = by_kind t.address
@@ -63,7 +71,6 @@ next_length a cells t = by_kind t.address
 pub record Reached (s : Shape) (text cells : List ℕ) (p : Progress) (at : ℕ) : Type 0 where
   pub size : length cells ≡ 2 ^ s.k
   pub within : at ≤ length text
-  pub near : p.address ≤ 2 ^ s.k
   pub counted : p.given ≡ count_given cells
   pub left_is : obeyed s p.address cells (tokens_from text (outside false) at) ≡ reading s text
 
@@ -73,25 +80,24 @@ module _ (s : Shape) (text : List ℕ) where
       record {
         size = ap length is ∙ length-replicate (2 ^ s.k) missing;
         within = omega arith;
-        near = omega arith;
         counted = sym (ap count_given is ∙ count_none (2 ^ s.k));
         left_is = rw is refl;
       }
 
   module _ (cells : List ℕ) (p : Progress) (at : ℕ) (r : Reached s text cells p at) where
     -- no token is left
-    pub reached_ends : (a : ReadAnswer) → tokens_from text (outside false) at ≡ [] → Came (ended cells) a cells → Came (reading s text) a cells
+    pub reached_ends : (a : Result (Unit {0}) ReadError) → tokens_from text (outside false) at ≡ [] → Came (ended cells) a cells → Came (reading s text) a cells
     unfolding obeyed
     reached_ends a none came =
         let is : ended cells ≡ reading s text = sym (ap (obeyed s p.address cells) none) ∙ r.left_is in
         rw (← is) came
 
     -- a faulty one is next
-    pub reached_bad : (from : Offset) (after : List ℕ) → IsFaulty text at from.0 → Came (reading s text) (BadToken from) after
+    pub reached_bad : (from : Offset) → IsFaulty text at from.0 → error_report (BadToken from) ≡ (reading s text).report
     unfolding obeyed answer
-    reached_bad from after f =
+    reached_bad from f =
         let is : stopped (reply 8 f.first.offset) ≡ reading s text = sym (ap (obeyed s p.address cells) f.tokens_are ∙ rw f.bad refl) ∙ r.left_is in
-        (rw (← is, ← f.offset_is) refl, λ e. absurd (false≢true e))
+        rw (← is, ← f.offset_is) refl
 
     module _ (g : GoodWidths s) (word : Word) (end : ℕ) (next : SaysSo text at word end) where
       -- the tests of the next one are those of its number as the code holds it
@@ -107,10 +113,8 @@ module _ (s : Shape) (text : List ℕ) where
       becomes = ap (answer stopped rest) same_tests ∙ sym (ap (obeyed s p.address cells) next.tokens_are) ∙ r.left_is
 
       -- the reading stops at it
-      pub reached_stops : (a : ReadAnswer) (after : List ℕ) → Stops s p (says word) cells a → Came (reading s text) a after
-      reached_stops a after stop =
-          let is = sym (stop.stops rest) ∙ becomes in
-          (ap (λ (x : Reading). x.report) is, λ e. absurd (false≢true (sym stop.not_done ∙ e)))
+      pub reached_stops : (e : ReadError) → Stops s p (says word) cells e → error_report e ≡ (reading s text).report
+      reached_stops e stop = ap (λ (x : Reading). x.report) (sym (stop rest) ∙ becomes)
 
       -- or goes on after it
       pub reached_on : (after : List ℕ) (q : Progress) → GoesOn s p (says word) cells after q → Reached s text after q end
@@ -123,7 +127,6 @@ module _ (s : Shape) (text : List ℕ) where
           record {
             size = ap length on.cells_are ∙ next_length p.address cells (says word) ∙ r.size;
             within = next.within;
-            near = on.near;
             counted = on.counted r.counted;
             left_is =
                 ap₂ (λ (a : ℕ) (cs : List ℕ). obeyed s a cs (tokens_from text (outside false) end)) (on.address_is ∙ ap (next_address p.address) it)

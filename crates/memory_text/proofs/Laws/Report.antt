@@ -1,17 +1,20 @@
 -- The answers of `write_memory` and `read_memory` can be read back from their numbers, so no two answers have the same; and which of
 -- their values are zero. Assumes nothing.
 use Prim.Native.Nat.{ℕ, ◌^◌, ◌<◌}
+use Rattle.std.specs.Prelude.{Result, Ok, Err}
 use mathlib.Core.Bool.{cond}
 use mathlib.Core.List.{List, [], ◌∷◌}
 use mathlib.Core.Path.{◌≡◌, refl, ap, subst, ◌∙◌}
 use native.Mathlib.Omega.{arith}
 use lib.Dec.{eqb}
 use lib.ListN.{length, take}
+use Rattle.units.specs.declared.counts.Offset.{Offset}
+use Rattle.units.specs.declared.refusals.Fault.{Fault}
 use Rattle.units.specs.declared.refusals.Refusal.{Refusal}
 use Rattle.units.specs.declared.refusals.Refusal.TheVariants.{InputWidth, OutputWidth, FewCells, Place, Divisor, Line, ShortText}
 use Rattle.units.specs.declared.shapes.Shape.{Shape}
 use Rattle.units.specs.Refusals.{Reply, reply, refusal, table_tests, short_text}
-use Rattle.units.proofs.Laws.OneToOne.{one_to_one, by_number, refused_reads}
+use Rattle.units.proofs.Laws.OneToOne.{one_to_one, by_number, by_fault, fault_reads}
 use Rattle.units.proofs.Laws.Tests.{answer_has, refused_by, rest_answers, all_passed, other_passed, done_by}
 use Rattle.units.proofs.Laws.Order.{by_order}
 use Rattle.entry.specs.Fields.{is_wide}
@@ -24,32 +27,29 @@ use Rattle.memory_text.specs.Read as Read
 use Rattle.memory_text.specs.Read.{Reading, token_tests, next_address, next_cells, stopped, lacking, complete, missing_among, obeyed, reading, read_report}
 use Rattle.memory_text.specs.Write as Write
 use Rattle.memory_text.specs.Write.{memory_text, write_tests, write_report}
-use Rattle.memory_text.specs.declared.reading.ReadAnswer.{ReadAnswer}
-use Rattle.memory_text.specs.declared.reading.ReadAnswer.TheVariants as read
-use Rattle.memory_text.specs.declared.writing.WriteAnswer.{WriteAnswer}
-use Rattle.memory_text.specs.declared.writing.WriteAnswer.TheVariants as write
+use Rattle.memory_text.specs.declared.errors.ReadError.{ReadError}
+use Rattle.memory_text.specs.declared.errors.ReadError.TheVariants.{BadToken, PastTable, TooWide, GivenTwice, Missing, Refused}
 
-write_answer_of : Write.Report → WriteAnswer
-write_answer_of r = by_number r.number (write.Written (record { 0 = r.length })) (write.TooWide (record { 0 = r.n })) write.Refused
+write_answer_of : Write.Report → Result Offset Fault
+write_answer_of r = by_fault r.number r.n (Ok (record { 0 = r.length })) (λ (fault : Fault). Err fault)
 
-write_reads : (a : WriteAnswer) → write_answer_of (Write.reported a) ≡ a
+write_reads : (a : Result Offset Fault) → write_answer_of (Write.reported a) ≡ a
 unfolding write_answer_of
-write_reads (write.Written end) = refl
-write_reads (write.TooWide n) = refl
-write_reads (write.Refused r) = refused_reads r _ _ write.Refused
+write_reads (Ok end) = refl
+write_reads (Err fault) = fault_reads fault _ (λ (fault : Fault). Err fault)
 
-pub written_one_to_one : (a b : WriteAnswer) → Write.reported a ≡ Write.reported b → a ≡ b
+pub written_one_to_one : (a b : Result Offset Fault) → Write.reported a ≡ Write.reported b → a ≡ b
 written_one_to_one = one_to_one Write.reported write_answer_of write_reads
 
-read_answer_of : Read.Report → ReadAnswer
+read_answer_of : Read.Report → Result (Unit {0}) ReadError
 read_answer_of r =
-    cond (eqb r.number 8) (read.BadToken (record { 0 = r.offset }))
-    (cond (eqb r.number 9) (read.PastTable (record { 0 = r.offset }))
-    (cond (eqb r.number 10) (read.GivenTwice (record { 0 = r.offset }))
-    (cond (eqb r.number 11) (read.Missing (record { 0 = r.n }))
-    (by_number r.number read.Done (read.TooWide (record { 0 = r.offset })) read.Refused))))
+    cond (eqb r.number 8) (Err (BadToken (record { 0 = r.offset })))
+    (cond (eqb r.number 9) (Err (PastTable (record { 0 = r.offset })))
+    (cond (eqb r.number 10) (Err (GivenTwice (record { 0 = r.offset })))
+    (cond (eqb r.number 11) (Err (Missing (record { 0 = r.n })))
+    (by_number r.number (Ok tt) (Err (TooWide (record { 0 = r.offset }))) (λ (r : Refusal). Err (Refused r))))))
 
-refused_read_reads : (r : Refusal) → read_answer_of (Read.reported (read.Refused r)) ≡ read.Refused r
+refused_read_reads : (r : Refusal) → read_answer_of (Read.error_report (Refused r)) ≡ Err (Refused r)
 unfolding read_answer_of
 refused_read_reads InputWidth = refl
 refused_read_reads OutputWidth = refl
@@ -59,17 +59,17 @@ refused_read_reads Divisor = refl
 refused_read_reads Line = refl
 refused_read_reads ShortText = refl
 
-read_reads : (a : ReadAnswer) → read_answer_of (Read.reported a) ≡ a
+read_reads : (a : Result (Unit {0}) ReadError) → read_answer_of (Read.reported a) ≡ a
 unfolding read_answer_of
-read_reads read.Done = refl
-read_reads (read.BadToken at) = refl
-read_reads (read.PastTable at) = refl
-read_reads (read.TooWide at) = refl
-read_reads (read.GivenTwice at) = refl
-read_reads (read.Missing n) = refl
-read_reads (read.Refused r) = refused_read_reads r
+read_reads (Ok _) = refl
+read_reads (Err (BadToken at)) = refl
+read_reads (Err (PastTable at)) = refl
+read_reads (Err (TooWide at)) = refl
+read_reads (Err (GivenTwice at)) = refl
+read_reads (Err (Missing n)) = refl
+read_reads (Err (Refused r)) = refused_read_reads r
 
-pub read_one_to_one : (a b : ReadAnswer) → Read.reported a ≡ Read.reported b → a ≡ b
+pub read_one_to_one : (a b : Result (Unit {0}) ReadError) → Read.reported a ≡ Read.reported b → a ≡ b
 read_one_to_one = one_to_one Read.reported read_answer_of read_reads
 
 -- "Fields that an answer doesn't use are zero": the length with 0 alone, n with 5 alone

@@ -2,16 +2,16 @@
 use Prim.Native.Nat.{ℕ, suc, ◌+◌, ◌*◌, ◌≤◌, ◌<◌}
 use mathlib.Core.Bool.{Bool, true, false, cond}
 use mathlib.Core.List.{List, [], ◌∷◌}
-use mathlib.Core.Path.{◌≡◌, refl, sym, ap, ◌∙◌}
+use mathlib.Core.Path.{◌≡◌, sym, ap, ◌∙◌}
 use native.Mathlib.Omega.{arith}
-use borrow.Author.Tests.{lt-ltb, le-ltb}
-use lib.Dec.{eqb}
+use borrow.Author.Tests.{lt-ltb, ne_eqb}
 use lib.ListN.{length, drop, get_or}
+use Rattle.std.proofs.Common.{◌≢◌}
+use Rattle.std.specs.Prelude.{Option, Some, None}
 use Rattle.memory_tokens.specs.Tokens.{outside}
 use Rattle.memory_tokens.specs.Words.{digit_of, is_digit, underscore, goes_on, is_numeral, shows}
 use Rattle.memory_tokens.specs.Inner.Places.{tokens_from, word_from, ends_at, capped, RestIs, RestShown, NumeralAt}
 use Rattle.memory_tokens.specs.declared.numerals.Numeral.{Numeral}
-use Rattle.memory_tokens.specs.declared.numerals.Numeral.TheVariants.{NoNumber, Shows}
 use Rattle.memory_tokens.proofs.Laws.Bytes.{digit_goes_on, underscore_goes_on}
 use Rattle.memory_tokens.proofs.Laws.Places.{text_ends, token_goes_on, token_ends, word_past, word_goes_on, word_ends}
 
@@ -75,10 +75,10 @@ module _ {text : List ℕ} {from before value at : ℕ} (s : Spelling text from 
               ∙ ap (λ (x : ℕ). capped (shows x rest)) (sym e);
         }
 
-    module _ (other : 16 ≤ digit_of (get_or text at 0)) where
+    module _ (other : digit_of (get_or text at 0) ≡ 16) where
       no_digit : is_digit b ≡ false
       unfolding is_digit b
-      no_digit = le-ltb (digit_of (get_or text at 0)) 16 other
+      no_digit = rw other
 
       pub spelling_underscore : get_or text at 0 ≡ underscore → Spelling text from before value (at + 1)
       unfolding goes_on b bs
@@ -94,9 +94,9 @@ module _ {text : List ℕ} {from before value at : ℕ} (s : Spelling text from 
             value_is = s.value_is ∙ ap capped (ap (shows value) word ∙ shows_other value b (word_from text (at + 1)) no_digit);
           }
 
-      pub spelling_bad : eqb (get_or text at 0) underscore ≡ false → ends_at text at ≡ false → goes_on (word_from text from) ≡ false
+      pub spelling_bad : get_or text at 0 ≢ underscore → ends_at text at ≡ false → goes_on (word_from text from) ≡ false
       unfolding goes_on b
-      spelling_bad other' goes = s.good_is ∙ rw (word_goes_on text at inside goes, no_digit, other')
+      spelling_bad other' goes = s.good_is ∙ rw (word_goes_on text at inside goes, no_digit, ne_eqb (get_or text at 0) underscore other')
 
   -- it ends where the token does
   ended : word_from text at ≡ [] → tokens_from text (outside true) at ≡ tokens_from text (outside false) at → RestIs text from before value at
@@ -121,13 +121,9 @@ module _ (text : List ℕ) (from : ℕ) where
   number_past h = rw (word_past text from h)
 
   module _ (inside : from < length text) where
-    pub first_bad : 16 ≤ digit_of (get_or text from 0) → is_numeral (word_from text from) ≡ false
+    pub first_bad : digit_of (get_or text from 0) ≡ 16 → is_numeral (word_from text from) ≡ false
     unfolding is_numeral is_digit
-    first_bad other = by_end (ends_at text from) refl
-      where
-        by_end : (ends : Bool) → ends_at text from ≡ ends → is_numeral (word_from text from) ≡ false
-        by_end true e = rw (word_ends text from inside e)
-        by_end false e = rw (word_goes_on text from inside e, le-ltb (digit_of (get_or text from 0)) 16 other)
+    first_bad other = grind (arith, word_ends, word_goes_on)
 
     module _ {d : ℕ} (is : d ≡ digit_of (get_or text from 0)) (small : d < 16) where
       digit : is_digit (get_or text from 0) ≡ true
@@ -137,10 +133,10 @@ module _ (text : List ℕ) (from : ℕ) where
       goes : ends_at text from ≡ false
       goes = digit_goes_on (get_or text from 0) (drop (suc from) text) digit
 
-      pub number_is : (r : Numeral) → RestShown text (from + 1) d r → NumeralAt text from r
+      pub number_is : (r : Option Numeral) → RestShown text (from + 1) d r → NumeralAt text from r
       unfolding is_numeral
-      number_is NoNumber p = rw (word_goes_on text from inside goes, digit) p
-      number_is (Shows value end) p =
+      number_is None p = rw (word_goes_on text from inside goes, digit) p
+      number_is (Some n) p =
           let word = word_goes_on text from inside goes in
           record {
             left = record { later = p.left.later; within = p.left.within; same = token_goes_on text from inside goes ∙ p.left.same };

@@ -1,16 +1,12 @@
 -- What the functions that go over a text hand to each other: where they have come, and what the text is from there on. Assumes nothing.
-use Rattle.std.specs.Prelude.{ℕ, suc, ◌+◌, ◌≤◌, ◌<◌, min, Bool, true, false, List, [], ◌∷◌, ◌≡◌, length, drop, get_or}
+use Rattle.std.specs.Prelude.{ℕ, suc, ◌+◌, ◌≤◌, ◌<◌, min, Bool, true, false, List, [], ◌∷◌, ◌≡◌, length, drop, get_or, Option, Some, None, Result, Ok, Err}
 use Rattle.memory_tokens.specs.Tokens.{Token, Mode, outside, comment, tokens_in, unfinished, word_of, slash, star, opens, ends}
-use Rattle.memory_tokens.specs.Words.{Saying, saying, goes_on, is_numeral, shows}
-use Rattle.memory_tokens.specs.declared.comments.Comment.{Comment}
-use Rattle.memory_tokens.specs.declared.comments.Comment.TheVariants.{NoComment, UpTo, Unclosed}
-use Rattle.memory_tokens.specs.declared.comments.Gap.{Gap}
-use Rattle.memory_tokens.specs.declared.comments.Gap.TheVariants.{TextEnd, Unfinished, TokenAt}
+use Rattle.memory_tokens.specs.Words.{digit_of, Saying, saying, goes_on, is_numeral, shows}
 use Rattle.memory_tokens.specs.declared.numerals.Numeral.{Numeral}
-use Rattle.memory_tokens.specs.declared.numerals.Numeral.TheVariants.{NoNumber, Shows}
-use Rattle.memory_tokens.specs.declared.tokens.Word.{Word}
-use Rattle.memory_tokens.specs.declared.tokens.Next.{Next}
-use Rattle.memory_tokens.specs.declared.tokens.Next.TheVariants.{NoMore, Faulty, Says}
+use Rattle.memory_tokens.specs.declared.words.Faulty.{Faulty}
+use Rattle.memory_tokens.specs.declared.words.Said.{Said}
+use Rattle.memory_tokens.specs.declared.words.Said.TheVariants.{Address, Value}
+use Rattle.memory_tokens.specs.declared.words.Word.{Word}
 
 -- the tokens of a text from a place on, and the rest of the word there
 abbrev pub tokens_from : List ℕ → Mode → ℕ → List Token
@@ -33,16 +29,15 @@ pub record Left (text : List ℕ) (mode : Mode) (at least end : ℕ) : Type 0 wh
   pub same : tokens_from text mode at ≡ tokens_from text (outside false) end
 
 -- the comment that begins at `from`: its slash is passed
-abbrev pub CommentEnds : List ℕ → Bool → ℕ → Comment → Type 0
-CommentEnds text line from NoComment = ⊥
-CommentEnds text line from (UpTo end) = Left text (comment line from false) (from + 1) (from + 1) end
-CommentEnds text line from Unclosed = tokens_from text (comment line from false) (from + 1) ≡ unfinished from ∷ []
+abbrev pub CommentEnds : List ℕ → Bool → ℕ → Result ℕ Faulty → Type 0
+CommentEnds text line from (Ok end) = Left text (comment line from false) (from + 1) (from + 1) end
+CommentEnds text line from (Err faulty) = (faulty.0.0 ≡ from) × (tokens_from text (comment line from false) (from + 1) ≡ unfinished from ∷ [])
 
 -- what is no comment, or one of either kind
-abbrev pub CommentAt : List ℕ → ℕ → Comment → Type 0
-CommentAt text at NoComment = (opens_at slash text at ≡ false) × (opens_at star text at ≡ false)
-CommentAt text at (UpTo end) = Left text (outside false) at (at + 1) end
-CommentAt text at Unclosed = tokens_from text (outside false) at ≡ unfinished at ∷ []
+abbrev pub CommentAt : List ℕ → ℕ → Result (Option ℕ) Faulty → Type 0
+CommentAt text at (Ok None) = (opens_at slash text at ≡ false) × (opens_at star text at ≡ false)
+CommentAt text at (Ok (Some end)) = Left text (outside false) at (at + 1) end
+CommentAt text at (Err faulty) = (faulty.0.0 ≡ at) × (tokens_from text (outside false) at ≡ unfinished at ∷ [])
 
 -- the gap from `from` on
 pub record IsTokenAt (text : List ℕ) (from at : ℕ) : Type 0 where
@@ -50,10 +45,15 @@ pub record IsTokenAt (text : List ℕ) (from at : ℕ) : Type 0 where
   pub inside : at < length text
   pub begins : ends_at text at ≡ false
 
-abbrev pub GapEnds : List ℕ → ℕ → Gap → Type 0
-GapEnds text from TextEnd = tokens_from text (outside false) from ≡ []
-GapEnds text from (Unfinished at) = tokens_from text (outside false) from ≡ unfinished at ∷ []
-GapEnds text from (TokenAt at) = IsTokenAt text from at
+abbrev pub GapEnds : List ℕ → ℕ → Result (Option ℕ) Faulty → Type 0
+GapEnds text from (Ok None) = tokens_from text (outside false) from ≡ []
+GapEnds text from (Ok (Some at)) = IsTokenAt text from at
+GapEnds text from (Err faulty) = tokens_from text (outside false) from ≡ unfinished faulty.0.0 ∷ []
+
+-- what a byte shows, if it is a digit
+abbrev pub IsDigit : ℕ → Option ℕ → Type 0
+IsDigit b None = digit_of b ≡ 16
+IsDigit b (Some d) = (d ≡ digit_of b) × (d < 16)
 
 -- a number as the code holds it: what is past every table and every field is 65536
 abbrev pub capped : ℕ → ℕ
@@ -65,9 +65,9 @@ pub record RestIs (text : List ℕ) (from before value end : ℕ) : Type 0 where
   pub good : goes_on (word_from text from) ≡ true
   pub value_is : value ≡ capped (shows before (word_from text from))
 
-abbrev pub RestShown : List ℕ → ℕ → ℕ → Numeral → Type 0
-RestShown text from before NoNumber = goes_on (word_from text from) ≡ false
-RestShown text from before (Shows value end) = RestIs text from before value end
+abbrev pub RestShown : List ℕ → ℕ → ℕ → Option Numeral → Type 0
+RestShown text from before None = goes_on (word_from text from) ≡ false
+RestShown text from before (Some n) = RestIs text from before n.value n.end
 
 -- a whole number at a place
 pub record NumeralIs (text : List ℕ) (from value end : ℕ) : Type 0 where
@@ -75,21 +75,24 @@ pub record NumeralIs (text : List ℕ) (from value end : ℕ) : Type 0 where
   pub good : is_numeral (word_from text from) ≡ true
   pub value_is : value ≡ capped (shows 0 (word_from text from))
 
-abbrev pub NumeralAt : List ℕ → ℕ → Numeral → Type 0
-NumeralAt text from NoNumber = is_numeral (word_from text from) ≡ false
-NumeralAt text from (Shows value end) = NumeralIs text from value end
+abbrev pub NumeralAt : List ℕ → ℕ → Option Numeral → Type 0
+NumeralAt text from None = is_numeral (word_from text from) ≡ false
+NumeralAt text from (Some n) = NumeralIs text from n.value n.end
 
 -- what a token says, as the code holds it
+abbrev pub says_address : Said → Bool
+says_address (Address v) = true
+says_address (Value v) = false
+
+abbrev pub number_said : Said → ℕ
+number_said (Address v) = v
+number_said (Value v) = v
+
 abbrev pub says : Word → Saying
-says w = record { offset = w.from.0; formed = true; address = w.address; value = w.value }
+says w = record { offset = w.from.0; formed = true; address = says_address w.says; value = number_said w.says }
 
 abbrev pub capped_saying : Saying → Saying
 capped_saying t = record { offset = t.offset; formed = t.formed; address = t.address; value = capped t.value }
-
--- a token at a place, by its number
-abbrev pub said : ℕ → Bool → Numeral → Next
-said from address NoNumber = Faulty (record { 0 = from })
-said from address (Shows value end) = Says (record { from = record { 0 = from }; address = address; value = value }) end
 
 -- the next token: none; a faulty one; one that says something, and what is left after it
 pub record IsFaulty (text : List ℕ) (at offset : ℕ) : Type 0 where
@@ -106,7 +109,12 @@ pub record SaysSo (text : List ℕ) (at : ℕ) (word : Word) (end : ℕ) : Type 
   pub later : at + 1 ≤ end
   pub within : end ≤ length text
 
-abbrev pub NextToken : List ℕ → ℕ → Next → Type 0
-NextToken text at NoMore = tokens_from text (outside false) at ≡ []
-NextToken text at (Faulty from) = IsFaulty text at from.0
-NextToken text at (Says word end) = SaysSo text at word end
+-- the token at a place, and the next one
+abbrev pub TokenAt : List ℕ → ℕ → Result (Word × ℕ) Faulty → Type 0
+TokenAt text at (Ok says) = SaysSo text at says.0 says.1
+TokenAt text at (Err faulty) = IsFaulty text at faulty.0.0
+
+abbrev pub NextToken : List ℕ → ℕ → Result (Option (Word × ℕ)) Faulty → Type 0
+NextToken text at (Ok None) = tokens_from text (outside false) at ≡ []
+NextToken text at (Ok (Some says)) = SaysSo text at says.0 says.1
+NextToken text at (Err faulty) = IsFaulty text at faulty.0.0

@@ -1,97 +1,96 @@
 -- `memory_text::obey` meets its contract: it makes the tests of a token in their order. Assumes nothing.
-use Prim.Native.Nat.{◌^◌, ◌≤◌, ◌<◌}
-use mathlib.Core.Bool.{false}
+use Prim.Native.Nat.{ℕ, ◌^◌, ◌≤◌, ◌<◌}
+use mathlib.Core.Bool.{true, false}
+use mathlib.Core.List.{List}
 use mathlib.Core.Path.{◌≡◌, refl}
 use native.Mathlib.Omega.{arith}
 use lib.Dec.{leb}
+use lib.ListN.{length}
 use lib.Pow.{pow_mono}
 use borrow.Author.Tests.{le-leb, lt-leb}
-use Rattle.entry.specs.Fields.{is_wide}
+use Rattle.units.specs.declared.shapes.Shape.{Shape}
+use Rattle.entry.specs.Fields.{fields_end, is_wide}
 use Rattle.entry.proofs.Laws.Fields.{fields_end_within}
-use Rattle.memory_tokens.specs.Inner.Places.{says}
 use Rattle.memory_text.proofs.Laws.Given.{is_given, is_missing_lem, count_set}
 use Rattle.memory_text.proofs.Laws.Obey.{address_past, address_passes, value_past, value_wide, value_twice, value_passes}
 use Rattle.memory_text.proofs.storing.obey.Goals as goal
 
-pub returns-then-cells-value : goal.returns-then-cells-value
-returns-then-cells-value c =
-    let a = c.args in
-    record {
-      not_done = refl;
-      stops =
-          address_past a.shape a.before.address a.cells.now (says a.word) refl c.if-word.true
-          (le-leb (2 ^ a.shape.k) a.word.value (omega (arith, c.requires.good_widths.1.0)));
-    }
+-- the cells are as many as the table has
+module _ (s : Shape) (cells : List ℕ) (size : length cells ≡ 2 ^ s.k) (at : ℕ) where
+  past : length cells ≤ at → leb (2 ^ s.k) at ≡ true
+  past h = le-leb (2 ^ s.k) at (omega (arith, size, h))
 
-pub returns-then-word : goal.returns-then-word
-returns-then-word c =
+  near : at < length cells → leb (2 ^ s.k) at ≡ false
+  near h = lt-leb (2 ^ s.k) at (omega (arith, size, h))
+
+module _ (s : Shape) (v end : ℕ) (end_is : end ≡ fields_end s) where
+  wide : end ≤ v → is_wide s v ≡ true
+  unfolding is_wide
+  wide h = le-leb (fields_end s) v (omega (arith, end_is, h))
+
+  narrow : v < end → is_wide s v ≡ false
+  unfolding is_wide
+  narrow h = lt-leb (fields_end s) v (omega (arith, end_is, h))
+
+pub returns-then-cells-next : goal.returns-then-cells-next
+returns-then-cells-next c =
     let a = c.args in
-    let is = c.if-word.true in
-    let near : a.word.value < 2 ^ a.shape.k = omega (arith, c.requires.good_widths.1.0) in
+    rw c.in-Address.is
+    (address_past a.good.shape a.before.address a.cells.now _ refl refl (past a.good.shape _ c.requires.0 _ c.if-cells-next.true))
+
+pub returns-else-cells-next : goal.returns-else-cells-next
+returns-else-cells-next c =
+    let a = c.args in
+    rw c.in-Address.is
     record {
-      passed = address_passes a.shape a.before.address a.cells.now (says a.word) refl is (lt-leb (2 ^ a.shape.k) a.word.value near);
-      address_is = rw is refl;
-      cells_are = rw is refl;
-      near = omega (arith, near);
-      small = omega (arith, near, pow_mono c.requires.good_widths.0.narrow_in);
+      passed = address_passes a.good.shape a.before.address a.cells.now _ refl refl (near a.good.shape _ c.requires.0 _ c.if-cells-next.false);
+      address_is = refl;
+      cells_are = refl;
+      near = omega (arith, c.requires.0);
+      small = omega (arith, c.requires.0, pow_mono a.good.good.narrow_in);
       counted = λ e. e;
     }
 
 pub returns-then-cells-address : goal.returns-then-cells-address
 returns-then-cells-address c =
     let a = c.args in
-    record {
-      not_done = refl;
-      stops =
-          value_past a.shape a.before.address a.cells.now (says a.word) refl c.if-word.false
-          (le-leb (2 ^ a.shape.k) a.before.address (omega (arith, c.requires.good_widths.1.0)));
-    }
+    rw c.in-Value.is
+    (value_past a.good.shape _ a.cells.now _ refl refl (past a.good.shape _ c.requires.0 _ c.if-cells-address.true))
 
 pub returns-then-fields_of-value : goal.returns-then-fields_of-value
-unfolding is_wide
 returns-then-fields_of-value c =
     let a = c.args in
-    let near : leb (2 ^ a.shape.k) a.before.address ≡ false = lt-leb (2 ^ a.shape.k) a.before.address (omega (arith, c.requires.good_widths.1.0)) in
-    record {
-      not_done = refl;
-      stops =
-          value_wide a.shape a.before.address a.cells.now (says a.word) refl c.if-word.false near
-          (le-leb _ a.word.value (omega (arith, c.fields_of.ensures.1)));
-    }
+    rw c.in-Value.is
+    (value_wide a.good.shape _ a.cells.now _ refl refl (near a.good.shape _ c.requires.0 _ c.if-cells-address.false)
+    (wide a.good.shape _ _ c.fields_of.ensures.1 c.if-fields_of-value.true))
 
 pub returns-then-cells-address-2 : goal.returns-then-cells-address-2
-unfolding is_wide
 returns-then-cells-address-2 c =
     let a = c.args in
-    let near : leb (2 ^ a.shape.k) a.before.address ≡ false = lt-leb (2 ^ a.shape.k) a.before.address (omega (arith, c.requires.good_widths.1.0)) in
-    let narrow : is_wide a.shape a.word.value ≡ false = lt-leb _ a.word.value (omega (arith, c.fields_of.ensures.1)) in
-    record {
-      not_done = refl;
-      stops =
-          value_twice a.shape a.before.address a.cells.now (says a.word) refl c.if-word.false near narrow
-          (is_given _ c.if-cells-address-2.true);
-    }
+    rw c.in-Value.is
+    (value_twice a.good.shape _ a.cells.now _ refl refl (near a.good.shape _ c.requires.0 _ c.if-cells-address.false)
+    (narrow a.good.shape _ _ c.fields_of.ensures.1 c.if-fields_of-value.false)
+    (is_given _ c.if-cells-address-2.true))
 
 pub overflow_cast-cells : goal.overflow_cast-cells
 overflow_cast-cells c =
-    omega (arith, c.fields_of.ensures.1, fields_end_within c.args.shape, pow_mono c.requires.good_widths.0.narrow_out)
+    omega (arith, c.fields_of.ensures.1, fields_end_within c.args.good.shape, pow_mono c.args.good.good.narrow_out)
 
-pub returns : goal.returns
-unfolding is_wide
-returns c =
+pub returns-else-cells-address-2 : goal.returns-else-cells-address-2
+returns-else-cells-address-2 c =
     let a = c.args in
-    let is = c.if-word.false in
-    let near : leb (2 ^ a.shape.k) a.before.address ≡ false = lt-leb (2 ^ a.shape.k) a.before.address (omega (arith, c.requires.good_widths.1.0)) in
-    let narrow : is_wide a.shape a.word.value ≡ false = lt-leb _ a.word.value (omega (arith, c.fields_of.ensures.1)) in
-    let small : a.word.value ≤ 32768 =
-    omega (arith, c.fields_of.ensures.1, fields_end_within a.shape, pow_mono c.requires.good_widths.0.narrow_out) in
+    let small : c.in-Value.value ≤ 32768 =
+    omega (arith, c.fields_of.ensures.1, fields_end_within a.good.shape, pow_mono a.good.good.narrow_out) in
     let first = is_missing_lem _ c.if-cells-address-2.false in
+    rw c.in-Value.is
     record {
-      passed = value_passes a.shape a.before.address a.cells.now (says a.word) refl is near narrow first;
-      address_is = rw is (omega arith);
-      cells_are = rw is refl;
-      near = omega (arith, c.requires.good_widths.1.0);
+      passed =
+          value_passes a.good.shape _ a.cells.now _ refl refl (near a.good.shape _ c.requires.0 _ c.if-cells-address.false)
+          (narrow a.good.shape _ _ c.fields_of.ensures.1 c.if-fields_of-value.false)
+          first;
+      address_is = omega arith;
+      cells_are = refl;
+      near = omega (arith, c.requires.0);
       small = omega (arith, small);
-      counted =
-          λ e. omega (arith, e, count_set a.cells.now a.before.address a.word.value (omega arith) first (is_given _ (λ w. omega (arith, w, small))));
+      counted = λ e. omega (arith, e, count_set a.cells.now a.before.address c.in-Value.value (omega arith) first (is_given _ (λ w. omega (arith, w, small))));
     }

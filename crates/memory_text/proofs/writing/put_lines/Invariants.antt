@@ -1,11 +1,6 @@
--- The loop's invariant is `Putting`: the lines put so far, and room for the others. Assumes nothing.
-use Prim.Native.Nat.{◌-◌}
-use lib.ListN.{length}
+-- The lines put so far, and room for the others.
 use Rattle.memory_text.proofs.Laws.Lines.{Putting}
 use Rattle.memory_text.proofs.writing.put_lines.Given as goal
 
-abbrev pub invariant-loop-n : goal.invariant-loop-n
-invariant-loop-n l = Putting l.count l.cells l.initial.text l.text l.at l.n
-
-abbrev pub decreases-loop-n : goal.decreases-loop-n
-decreases-loop-n l = length l.cells - l.n
+abbrev pub invariant-loop-f : goal.invariant-loop-f
+invariant-loop-f l = Putting l.count l.cells l.initial.text l.text l.at l.f-index

@@ -1,20 +1,15 @@
 -- `memory_tokens::comment_at` meets its contract: a comment is one of two kinds. Assumes nothing.
-use mathlib.Core.Bool.{true, false}
-use mathlib.Core.Path.{sym, ◌∙◌}
-use Rattle.memory_tokens.proofs.Laws.Places.{line_begins, block_begins, comment_is}
+use native.Mathlib.Omega.{arith}
+use Rattle.std.proofs.lemmas.Result.{err_from_is_err_and}
+use Rattle.memory_tokens.proofs.Laws.Places.{line_begins, block_begins}
 use Rattle.memory_tokens.proofs.comments.comment_at.Goals as goal
 
 pub returns-then-opens : goal.returns-then-opens
-returns-then-opens c =
-    comment_is c.args.text.now c.args.at c.requires true c.comment_end.result
-    (line_begins c.args.text.now c.args.at c.requires false (sym c.opens.ensures ∙ c.if-opens.true))
-    c.comment_end.ensures
+returns-then-opens c = grind (arith, line_begins)
 
 pub returns-then-opens-2 : goal.returns-then-opens-2
-returns-then-opens-2 c =
-    comment_is c.args.text.now c.args.at c.requires false c.comment_end-then-opens-2.result
-    (block_begins c.args.text.now c.args.at c.requires false (sym c.opens.ensures ∙ c.if-opens.false) (sym c.opens-2.ensures ∙ c.if-opens-2.true))
-    c.comment_end-then-opens-2.ensures
+returns-then-opens-2 c = grind (arith, block_begins)
 
-pub returns : goal.returns
-returns c = (sym c.opens.ensures ∙ c.if-opens.false, sym c.opens-2.ensures ∙ c.if-opens-2.false)
+pub returns-in_err-block_end : goal.returns-in_err-block_end
+returns-in_err-block_end c =
+    let p = err_from_is_err_and c.from_residual.result c.from_residual.ensures.1 in rw (p.1, p.2) (grind (arith, block_begins))

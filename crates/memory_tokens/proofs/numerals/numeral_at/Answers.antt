@@ -1,16 +1,14 @@
 -- `memory_tokens::numeral_at` meets its contract: a first digit, and the rest. Assumes nothing.
 use native.Mathlib.Omega.{arith}
+use Rattle.std.proofs.lemmas.Option.{slice_get_cases}
 use Rattle.memory_tokens.proofs.Laws.Numerals.{number_past, first_bad, number_is}
 use Rattle.memory_tokens.proofs.numerals.numeral_at.Goals as goal
 
-pub returns-then-text-from : goal.returns-then-text-from
-returns-then-text-from c = number_past c.args.text.now c.args.from c.if-text-from.true
+pub returns-in_err-first : goal.returns-in_err-first
+returns-in_err-first c = rw c.from_residual.ensures (grind (arith, slice_get_cases, number_past))
 
-pub returns-then-digit-ge16 : goal.returns-then-digit-ge16
-returns-then-digit-ge16 c =
-    first_bad c.args.text.now c.args.from c.if-text-from.false (omega (arith, c.digit_of-digit.ensures))
+pub returns-in_err-digit : goal.returns-in_err-digit
+returns-in_err-digit c = rw c.from_residual-in_err-digit.ensures (grind (arith, slice_get_cases, first_bad))
 
 pub returns : goal.returns
-returns c =
-    number_is c.args.text.now c.args.from c.if-text-from.false c.digit_of-digit.ensures c.if-digit-ge16.false
-    c.rest_shown.result c.rest_shown.ensures
+returns c = grind (arith, slice_get_cases, number_is)

@@ -1,15 +1,17 @@
 -- `memory_tokens::token_at` meets its contract: the number of an address begins after its @. Assumes nothing.
-use mathlib.Core.Path.{refl, sym, subst}
-use lib.Dec.{eqb}
-use lib.ListN.{get_or}
+use borrow.Author.Tests.{eq-eqb, ne_eqb}
 use Rattle.memory_tokens.specs.Words.{at_sign}
-use Rattle.memory_tokens.specs.Inner.Places.{NextToken}
-use Rattle.memory_tokens.proofs.Laws.Next.{token_said}
+use Rattle.memory_tokens.specs.declared.words.Said.TheVariants.{Address, Value}
+use Rattle.memory_tokens.proofs.Laws.Next.{token_faulty, token_says}
 use Rattle.memory_tokens.proofs.tokens.token_at.Goals as goal
 
-pub returns : goal.returns
-returns c =
-    let text = c.args.text.now in
-    let from = c.args.from in
-    subst (NextToken text from) (sym c.said.ensures)
-    (token_said text from c.requires.0 c.requires.1 (eqb (get_or text from 0) at_sign) refl c.numeral_at.result c.numeral_at.ensures)
+pub returns-in_default : goal.returns-in_default
+returns-in_default c = token_faulty c.args.text.now c.args.from c.requires.0 c.requires.1 c.in_default.ensures
+
+pub returns-then-address : goal.returns-then-address
+returns-then-address c =
+    token_says c.args.text.now c.args.from c.requires.0 c.requires.1 (Address c.in-Some.numeral.value) c.in-Some.ensures (eq-eqb _ at_sign c.if-address.true)
+
+pub returns-else-address : goal.returns-else-address
+returns-else-address c =
+    token_says c.args.text.now c.args.from c.requires.0 c.requires.1 (Value c.in-Some.numeral.value) c.in-Some.ensures (ne_eqb _ at_sign c.if-address.false)

@@ -1,0 +1,37 @@
+// Why "Read memory" reads no table.
+ghost use Rattle.std.specs.Prelude.{◌≡◌};
+ghost use Rattle.memory_text.specs.declared.errors.ReadError.TheVariants.{BadToken, Refused};
+
+use memory_tokens::Faulty;
+use units::{Interval, Offset, Refusal};
+
+#[derive(Clone, Copy, Debug, PartialEq, Eq)]
+pub enum ReadError {
+    // 8: a bad character, an @ without digits or an unfinished comment.
+    BadToken(Offset),
+    // 9: an @ address past the table, or a value that would be stored past it.
+    PastTable(Offset),
+    // 5: a value that is no field.
+    TooWide(Offset),
+    // 10: a value for a cell that was given before.
+    GivenTwice(Offset),
+    // 11: a cell that was not given.
+    Missing(Interval),
+    Refused(Refusal),
+}
+
+impl From<Refusal> for ReadError {
+    ghost from_gives = { λ r e. e ≡ Refused r };
+
+    fn from(r: Refusal) -> ReadError {
+        ReadError::Refused(r)
+    }
+}
+
+impl From<Faulty> for ReadError {
+    ghost from_gives = { λ faulty e. e ≡ BadToken faulty.0 };
+
+    fn from(faulty: Faulty) -> ReadError {
+        ReadError::BadToken(faulty.0)
+    }
+}
