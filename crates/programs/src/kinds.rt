@@ -1,24 +1,17 @@
-// Kinds of tables, drawn and written.
-use crate::drawing::pick;
-use crate::writing::{column, number, text};
-use std::io;
+// How the programs write a table's shape.
+use std::fmt;
 use units::{Kind, Shape};
 
-// Every other time a table with one.
-pub fn drawn_kind(state: &mut u64) -> Kind {
-    match pick(state, 2) {
-        0 => Kind::Plain,
-        _ => Kind::WithOne,
-    }
-}
-
 // "k m", or "k m one".
-pub fn shape_named(rt: &impl Print, shape: Shape) -> io::Result<()> {
-    number(rt, shape.k as u64)?;
-    column(rt, shape.m)?;
-    let kind = shape.kind;
-    match kind {
-        Kind::Plain => Ok(()),
-        Kind::WithOne => text(rt, b" one"),
+pub struct Named(pub Shape);
+
+impl fmt::Display for Named {
+    fn fmt<W: fmt::Write>(&self, f: &mut fmt::Formatter<W>) -> fmt::Result {
+        let shape = self.0;
+        write!(f, "{} {}", shape.k, shape.m)?;
+        match shape.kind {
+            Kind::Plain => Ok(()),
+            Kind::WithOne => write!(f, " one"),
+        }
     }
 }

@@ -28,7 +28,7 @@ use Rattle.survey.proofs.Laws.Report as survey_laws
 use Rattle.survey.proofs.Laws.TallyReport as tally_laws
 use Rattle.memory_text.specs.Read as read_specs
 use Rattle.memory_text.specs.Write as write_specs
-use Rattle.memory_text.specs.declared.reading.ReadError.{ReadError}
+use Rattle.memory_text.specs.declared.errors.ReadError.{ReadError}
 use Rattle.memory_text.proofs.Laws.Report.{read_one_to_one, written_one_to_one}
 use Rattle.verdict.specs.Check as check_specs
 use Rattle.verdict.specs.declared.NotPassed.{NotPassed}
