@@ -13,18 +13,15 @@ ghost use Rattle.memory_text.specs.Read.{read_report, read_cells};
 ghost use Rattle.bench_calls.specs.Numbers.{shape_of, check_numbers, survey_numbers, lookup_numbers, write_numbers, read_numbers};
 
 use recip::{
-    CheckAnswer, Kind, LookupAnswer, ReadAnswer, Shape, SurveyAnswer, WriteAnswer, build,
-    check_table, look_up, read_memory, survey_table, write_memory,
+    Kind, NotPassed, ReadError, Shape, build, check_table, look_up, number_of, read_memory,
+    survey_table, write_memory,
 };
 
 // A table's shape: `one` says whether it is a table with one.
 fn shape_of(k: u32, m: u32, one: bool) -> Shape
     ensures { result ≡ shape_of k m one }
 {
-    if one {
-        return Shape::of(k, m, Kind::WithOne);
-    }
-    Shape::of(k, m, Kind::Plain)
+    Shape::of(k, m, if one { Kind::WithOne } else { Kind::Plain })
 }
 
 // It answers the number itself.
@@ -33,7 +30,7 @@ pub extern "C" fn quirelinnet_build(k: u32, m: u32, one: bool, table: &mut [u16]
     ensures answer { result ≡ (refusal (table_tests (shape_of k m one) (length table.old))).number }
     ensures cells { table.new ≡ built (shape_of k m one) table.old }
 {
-    build(shape_of(k, m, one), table).number()
+    number_of(build(shape_of(k, m, one), table))
 }
 
 // out: number, 1 for yes, n, its worst error, the least one.
@@ -41,20 +38,11 @@ pub extern "C" fn quirelinnet_build(k: u32, m: u32, one: bool, table: &mut [u16]
 pub extern "C" fn quirelinnet_check(k: u32, m: u32, one: bool, table: &[u16], out: &mut [u64; 5])
     ensures { out.new ≡ check_numbers (check_report (shape_of k m one) table.now) }
 {
-    match check_table(shape_of(k, m, one), table) {
-        CheckAnswer::Yes => {
-            *out = [0, 1, 0, 0, 0];
-        }
-        CheckAnswer::NotBest { n, worst, least } => {
-            *out = [0, 0, n.0 as u64, worst.0, least.0];
-        }
-        CheckAnswer::TooWide(n) => {
-            *out = [5, 0, n.0 as u64, 0, 0];
-        }
-        CheckAnswer::Refused(r) => {
-            *out = [r.number() as u64, 0, 0, 0, 0];
-        }
-    }
+    *out = match check_table(shape_of(k, m, one), table) {
+        Ok(()) => [0, 1, 0, 0, 0],
+        Err(NotPassed::NotBest { n, worst, least }) => [0, 0, n.0 as u64, worst.0, least.0],
+        Err(NotPassed::Faulty(f)) => [f.number() as u64, 0, f.n().0 as u64, 0, 0],
+    };
 }
 
 // out: number, worst error, n, side.
@@ -62,18 +50,15 @@ pub extern "C" fn quirelinnet_check(k: u32, m: u32, one: bool, table: &[u16], ou
 pub extern "C" fn quirelinnet_survey(k: u32, m: u32, one: bool, table: &[u16], out: &mut [u64; 4])
     ensures { out.new ≡ survey_numbers (survey_report (shape_of k m one) table.now) }
 {
-    match survey_table(shape_of(k, m, one), table) {
-        SurveyAnswer::Surveyed(f) => {
-            let side = f.side;
-            *out = [0, f.worst.0, f.n.0 as u64, side.number() as u64];
-        }
-        SurveyAnswer::TooWide(n) => {
-            *out = [5, 0, n.0 as u64, 0];
-        }
-        SurveyAnswer::Refused(r) => {
-            *out = [r.number() as u64, 0, 0, 0];
-        }
-    }
+    *out = match survey_table(shape_of(k, m, one), table) {
+        Ok(found) => [
+            0,
+            found.worst.0,
+            found.n.0 as u64,
+            found.side.number() as u64,
+        ],
+        Err(f) => [f.number() as u64, 0, f.n().0 as u64, 0],
+    };
 }
 
 // out: number, s, n, j.
@@ -88,17 +73,10 @@ pub extern "C" fn quirelinnet_look_up(
 )
     ensures { out.new ≡ lookup_numbers (lookup_report (shape_of k m one) x table.now) }
 {
-    match look_up(shape_of(k, m, one), x, table) {
-        LookupAnswer::Found { s, n, j } => {
-            *out = [0, s.0 as u64, n.0 as u64, j.0 as u64];
-        }
-        LookupAnswer::TooWide(n) => {
-            *out = [5, 0, n.0 as u64, 0];
-        }
-        LookupAnswer::Refused(r) => {
-            *out = [r.number() as u64, 0, 0, 0];
-        }
-    }
+    *out = match look_up(shape_of(k, m, one), x, table) {
+        Ok(found) => [0, found.s.0 as u64, found.n.0 as u64, found.j.0 as u64],
+        Err(f) => [f.number() as u64, 0, f.n().0 as u64, 0],
+    };
 }
 
 // out: number, length, n.
@@ -114,17 +92,10 @@ pub extern "C" fn quirelinnet_write_memory(
     ensures answer { out.new ≡ write_numbers (write_report (shape_of k m one) table.now (length text.old)) }
     ensures bytes { text.new ≡ written_bytes (shape_of k m one) table.now text.old }
 {
-    match write_memory(shape_of(k, m, one), table, text) {
-        WriteAnswer::Written(end) => {
-            *out = [0, end.0 as u64, 0];
-        }
-        WriteAnswer::TooWide(n) => {
-            *out = [5, 0, n.0 as u64];
-        }
-        WriteAnswer::Refused(r) => {
-            *out = [r.number() as u64, 0, 0];
-        }
-    }
+    *out = match write_memory(shape_of(k, m, one), table, text) {
+        Ok(end) => [0, end.0 as u64, 0],
+        Err(f) => [f.number() as u64, 0, f.n().0 as u64],
+    };
 }
 
 // out: number, offset, n.
@@ -140,27 +111,13 @@ pub extern "C" fn quirelinnet_read_memory(
     ensures answer { out.new ≡ read_numbers (read_report (shape_of k m one) text.now (length table.old)) }
     ensures cells { table.new ≡ read_cells (shape_of k m one) text.now table.old }
 {
-    match read_memory(shape_of(k, m, one), text, table) {
-        ReadAnswer::Done => {
-            *out = [0, 0, 0];
-        }
-        ReadAnswer::BadToken(from) => {
-            *out = [8, from.0 as u64, 0];
-        }
-        ReadAnswer::PastTable(from) => {
-            *out = [9, from.0 as u64, 0];
-        }
-        ReadAnswer::TooWide(from) => {
-            *out = [5, from.0 as u64, 0];
-        }
-        ReadAnswer::GivenTwice(from) => {
-            *out = [10, from.0 as u64, 0];
-        }
-        ReadAnswer::Missing(n) => {
-            *out = [11, 0, n.0 as u64];
-        }
-        ReadAnswer::Refused(r) => {
-            *out = [r.number() as u64, 0, 0];
-        }
-    }
+    *out = match read_memory(shape_of(k, m, one), text, table) {
+        Ok(()) => [0, 0, 0],
+        Err(ReadError::BadToken(from)) => [8, from.0 as u64, 0],
+        Err(ReadError::PastTable(from)) => [9, from.0 as u64, 0],
+        Err(ReadError::TooWide(from)) => [5, from.0 as u64, 0],
+        Err(ReadError::GivenTwice(from)) => [10, from.0 as u64, 0],
+        Err(ReadError::Missing(n)) => [11, 0, n.0 as u64],
+        Err(ReadError::Refused(r)) => [r.number() as u64, 0, 0],
+    };
 }
