@@ -16,14 +16,15 @@ ghost use Rattle.listing_line.specs.Line.{asks, line_read};
 ghost use Rattle.memory_text.specs.Read.{read_report};
 ghost use Rattle.intake.specs.Accepted.{cells_of, Accepted};
 
-use listing_line::{Reading, read_line};
-use programs::{labelled, long_column, read_full, text, zeroed};
-use recip::{CheckAnswer, ReadAnswer, Refusal, Shape, check_table, read_memory};
+use listing_line::read_line;
+use programs::read_full;
+use recip::{Fault, NotPassed, ReadError, Refusal, Shape, check_table, read_memory};
 use std::io;
 
 const LONGEST_TEXT: usize = 1048576;
 
-// Room for the longest line, the longest text, and the byte more by which a longer one is told.
+// Room for the longest line, the longest text, and the byte more by which a longer one is told. (Where it
+// is used the check would count a literal of this length out, and it cannot.)
 fn blank() -> [u8; 1048587]
     ensures { 1048587 ≡ length result }
 {
@@ -31,13 +32,12 @@ fn blank() -> [u8; 1048587]
 }
 
 fn refused(rt: &impl Print, r: Refusal) -> io::Result<()> {
-    labelled(rt, b"refused ", r.number() as u64)
+    println!(rt; "refused {}", r.number())
 }
 
 // A refusal that gives a place.
-fn refused_at(rt: &impl Print, number: u64, place: u64) -> io::Result<()> {
-    labelled(rt, b"refused ", number)?;
-    long_column(rt, place)
+fn refused_at(rt: &impl Print, number: u32, place: usize) -> io::Result<()> {
+    println!(rt; "refused {number} {place}")
 }
 
 // Below, `line` is lent for the contracts alone: the table is judged as one of the shape that the line
@@ -47,7 +47,7 @@ fn refused_at(rt: &impl Print, number: u64, place: u64) -> io::Result<()> {
 fn passes(rt: &impl Print, line: &[u8], shape: Shape, memory: &[u8]) -> io::Result<()>
     requires { (line_read line.now ≡ asks shape) × (Accepted shape memory.now) }
 {
-    text(rt, b"passes")
+    println!(rt; "passes")
 }
 
 // What was read is never refused here, yet what the call answers is written. The text is lent for the
@@ -57,30 +57,28 @@ fn check(rt: &impl Print, line: &[u8], shape: Shape, memory: &[u8], table: &[u16
     requires memory_value { ((read_report shape memory.now 32768).number ≡ 0) × (table.now ≡ cells_of shape memory.now) }
 {
     match check_table(shape, table) {
-        CheckAnswer::Yes => passes(rt, line, shape, memory),
-        CheckAnswer::NotBest { n, worst, least } => {
-            labelled(rt, b"not best ", n.0 as u64)?;
-            long_column(rt, worst.0)?;
-            long_column(rt, least.0)
+        Ok(()) => passes(rt, line, shape, memory),
+        Err(NotPassed::NotBest { n, worst, least }) => {
+            println!(rt; "not best {} {} {}", n.0, worst.0, least.0)
         }
-        CheckAnswer::TooWide(n) => refused_at(rt, 5, n.0 as u64),
-        CheckAnswer::Refused(r) => refused(rt, r),
+        Err(NotPassed::Faulty(Fault::TooWide(n))) => refused_at(rt, 5, n.0 as usize),
+        Err(NotPassed::Faulty(Fault::Refused(r))) => refused(rt, r),
     }
 }
 
 fn take(rt: &impl Print, line: &[u8], shape: Shape, memory: &[u8]) -> io::Result<()>
     requires { line_read line.now ≡ asks shape }
 {
-    let mut cells = zeroed();
+    let mut cells = [0u16; 32768];
     let table: &mut [u16] = &mut cells;
     match read_memory(shape, memory, table) {
-        ReadAnswer::Done => check(rt, line, shape, memory, table),
-        ReadAnswer::BadToken(at) => refused_at(rt, 8, at.0 as u64),
-        ReadAnswer::PastTable(at) => refused_at(rt, 9, at.0 as u64),
-        ReadAnswer::TooWide(at) => refused_at(rt, 5, at.0 as u64),
-        ReadAnswer::GivenTwice(at) => refused_at(rt, 10, at.0 as u64),
-        ReadAnswer::Missing(n) => refused_at(rt, 11, n.0 as u64),
-        ReadAnswer::Refused(r) => refused(rt, r),
+        Ok(()) => check(rt, line, shape, memory, table),
+        Err(ReadError::BadToken(at)) => refused_at(rt, 8, at.0),
+        Err(ReadError::PastTable(at)) => refused_at(rt, 9, at.0),
+        Err(ReadError::TooWide(at)) => refused_at(rt, 5, at.0),
+        Err(ReadError::GivenTwice(at)) => refused_at(rt, 10, at.0),
+        Err(ReadError::Missing(n)) => refused_at(rt, 11, n.0 as usize),
+        Err(ReadError::Refused(r)) => refused(rt, r),
     }
 }
 
@@ -88,44 +86,32 @@ fn take_if_short(rt: &impl Print, line: &[u8], shape: Shape, memory: &[u8]) -> i
     requires { line_read line.now ≡ asks shape }
 {
     if LONGEST_TEXT < memory.len() {
-        text(rt, b"too long")
+        println!(rt; "too long")
     } else {
         take(rt, line, shape, memory)
     }
 }
 
-fn ends_line(input: &[u8], at: usize) -> bool {
-    if input.len() <= at {
-        return false;
-    }
-    input[at] == 10
-}
-
-// The place after the first line, if it has 4 to 10 bytes as those of the listing's form have, or 0.
-fn line_end(input: &[u8]) -> usize {
+// The first line and what stands after it, if it has 4 to 10 bytes as those of the listing's form have.
+fn first_line(input: &[u8]) -> Option<(&[u8], &[u8])> {
     for at in 3..10 {
-        if ends_line(input, at) {
-            return at + 1;
+        if input.get(at) == Some(&b'\n') {
+            return Some(input.split_at(at + 1));
         }
     }
-    0
+    None
 }
 
 fn answer(rt: &impl Print, input: &[u8]) -> io::Result<()> {
-    let end = line_end(input);
-    if input.len() < end {
-        return Ok(());
-    }
-    let line = &input[0..end];
+    let (line, memory) = first_line(input).unwrap_or((&[], input));
     match read_line(line) {
-        Reading::Asks(shape) => take_if_short(rt, line, shape, &input[end..]),
-        Reading::Refused(r) => refused(rt, r),
+        Ok(shape) => take_if_short(rt, line, shape, memory),
+        Err(r) => refused(rt, r),
     }
 }
 
 fn main(rt: HostRuntime) -> io::Result<()> {
     let mut space = blank();
     let got = read_full(&rt, &mut space);
-    answer(&rt, &space[..got])?;
-    text(&rt, b"\n")
+    answer(&rt, &space[..got])
 }

@@ -10,18 +10,11 @@ ghost use Rattle.listing_line.specs.Line.{asks, line_read};
 ghost use Rattle.listing_text.specs.Inner.Pages.{Listed, IsPart};
 ghost use Rattle.listing_text.specs.Listing.{refused_text, table_text, text_for};
 
-use listing_line::{Reading, read_line};
+use listing_line::read_line;
 use listing_text::{LINE_MOST, fill_page, line_count, put_refused};
-use programs::{read_full, zeroed};
-use recip::{Finding, Outcome, Refusal, Shape, SurveyAnswer, build, survey_table};
+use programs::read_full;
+use recip::{Finding, Refusal, Shape, build, survey_table};
 use std::io;
-
-// A page of the text. (15,15), the longest listing, has 1,365,836 bytes and takes eleven of them.
-fn blank() -> [u8; 131072]
-    ensures { 131072 ≡ length result }
-{
-    [0; 131072]
-}
 
 // Below, `input` is lent for the contracts alone: each function is given what the text for this input
 // asks for.
@@ -42,7 +35,8 @@ fn refuse(rt: &impl Print, input: &[u8], r: Refusal) -> io::Result<()>
     send(rt, input, 0, 1, &page[..end])
 }
 
-// Writes the text a page at a time. It stops where a write fails.
+// Writes the text a page at a time. It stops where a write fails. (15,15), the longest listing, has
+// 1,365,836 bytes and takes eleven pages.
 fn write_text(
     rt: &impl Print,
     input: &[u8],
@@ -52,14 +46,13 @@ fn write_text(
 ) -> io::Result<()>
     requires { (table_text shape ≡ text_for input.now) × (Listed shape table.now (figures_of worst)) }
 {
-    let mut space = blank();
+    let mut space = [0u8; 131072];
     let page: &mut [u8] = &mut space;
     let lines = line_count(shape.k);
     let mut next: u32 = 0;
     while next < lines {
         let filled = fill_page(page, shape, table, worst, next);
-        let end = filled.end;
-        send(rt, input, next, filled.next, &page[..end])?;
+        send(rt, input, next, filled.next, &page[..filled.end])?;
         next = filled.next;
     }
     Ok(())
@@ -70,15 +63,14 @@ fn write_text(
 fn list(rt: &impl Print, input: &[u8], shape: Shape) -> io::Result<()>
     requires { line_read input.now ≡ asks shape }
 {
-    let mut cells = zeroed();
+    let mut cells = [0u16; 32768];
     let table: &mut [u16] = &mut cells;
     match build(shape, table) {
-        Outcome::Refused(r) => refuse(rt, input, r),
-        Outcome::Done => match survey_table(shape, table) {
-            SurveyAnswer::Surveyed(worst) => write_text(rt, input, shape, table, worst),
-            SurveyAnswer::TooWide(_) => unreachable!(),
-            SurveyAnswer::Refused(_) => unreachable!(),
+        Ok(()) => match survey_table(shape, table) {
+            Ok(worst) => write_text(rt, input, shape, table, worst),
+            Err(_) => unreachable!(),
         },
+        Err(r) => refuse(rt, input, r),
     }
 }
 
@@ -89,7 +81,7 @@ fn main(rt: HostRuntime) -> io::Result<()> {
     let got = read_full(&rt, &mut input);
     let line = &input[..got];
     match read_line(line) {
-        Reading::Asks(shape) => list(&rt, line, shape),
-        Reading::Refused(r) => refuse(&rt, line, r),
+        Ok(shape) => list(&rt, line, shape),
+        Err(r) => refuse(&rt, line, r),
     }
 }

@@ -2,7 +2,6 @@
 ghost use Rattle.std.specs.Prelude.{◌+◌, ◌≤◌, length};
 ghost use Rattle.units.specs.Sides.{side_number};
 ghost use Rattle.units.specs.Refusals.{refusal_number};
-ghost use Rattle.units.specs.Inner.Good.{GoodWidths};
 ghost use Rattle.entry.specs.Inner.Good.{GoodEntry};
 ghost use Rattle.entry.specs.Errors.{j_of};
 ghost use Rattle.survey.specs.Tally.{figures_of};
@@ -11,9 +10,9 @@ ghost use Rattle.listing_text.specs.Inner.Pages.{Put, line_most};
 ghost use Rattle.listing_text.specs.Inner.Room.{HasRoom, Grown};
 
 use crate::page::Page;
-use entry::{Errors, entry_of, errors_of, left_end, unit_of};
+use entry::{Errors, Place, PlacedEntry, entry_of, errors_of, left_end, unit_of};
 use survey::Finding;
-use units::{Entry, Interval, LeftEnd, Refusal, Shape, Side};
+use units::{Entry, GoodShape, Interval, LeftEnd, Refusal, Shape, Side};
 
 // The most bytes that a line has.
 pub const LINE_MOST: usize = 134;
@@ -52,13 +51,13 @@ impl Page<'_> {
     }
 
     // "First line: widths and 2^P."
-    pub fn put_first(&mut self, shape: Shape)
-        requires { (GoodWidths shape) × (HasRoom line_most self.old) }
-        ensures { Grown (first_line shape) line_most self.old self.new }
+    pub fn put_first(&mut self, good: GoodShape)
+        requires { HasRoom line_most self.old }
+        ensures { Grown (first_line good.shape) line_most self.old self.new }
     {
-        self.put_field(b"k=", shape.k as u64);
-        self.put_field(b" m=", shape.m as u64);
-        self.put_field(b" unit=", unit_of(shape));
+        self.put_field(b"k=", good.shape.k as u64);
+        self.put_field(b" m=", good.shape.m as u64);
+        self.put_field(b" unit=", unit_of(good));
         self.put(b"\n");
     }
 
@@ -67,9 +66,9 @@ impl Page<'_> {
         requires { (GoodEntry shape n.0 (j_of shape f)) × (HasRoom line_most self.old) }
         ensures { Grown (entry_line shape n.0 f) line_most self.old self.new }
     {
-        let j = entry_of(shape, f);
-        self.put_numbers(n, left_end(shape, n), j);
-        self.put_errors(errors_of(shape, n, j));
+        let j = entry_of(GoodShape { shape }, f);
+        self.put_numbers(n, left_end(Place { shape, n }), j);
+        self.put_errors(errors_of(PlacedEntry { shape, n, j }));
     }
 
     // "Last: survey's worst, its n, its side."

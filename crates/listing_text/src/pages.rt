@@ -8,7 +8,7 @@ ghost use Rattle.listing_text.specs.Listing.{line_of, line_count, table_text};
 use crate::lines::LINE_MOST;
 use crate::page::Page;
 use survey::Finding;
-use units::{Interval, Shape, power, small_power};
+use units::{GoodShape, Interval, Shape, power, small_power};
 
 // The lines before `next` are in the page, in its bytes up to `end`.
 #[derive(Clone, Copy)]
@@ -33,7 +33,7 @@ impl Page<'_> {
         ensures { Grown (line_of shape t) line_most self.old self.new }
     {
         if t == 0 {
-            return self.put_first(shape);
+            return self.put_first(GoodShape { shape });
         }
         let n = t - 1;
         if (n as u64) < power(shape.k) {

@@ -7,21 +7,13 @@ ghost use Rattle.listing_line.specs.Line.{asks, line_read};
 ghost use Rattle.memory_text.specs.Write.{memory_text};
 ghost use Rattle.memory.specs.Text.{best_text};
 
-use listing_line::{Reading, read_line};
-use programs::{labelled, read_full, text, zeroed};
-use recip::{Outcome, Refusal, Shape, WriteAnswer, build, write_memory};
+use listing_line::read_line;
+use programs::read_full;
+use recip::{Refusal, Shape, build, write_memory};
 use std::io;
 
-// Room for the longest text, that of (15,15): 32,768 lines of four digits and a newline.
-fn blank() -> [u8; 163840]
-    ensures { 163840 ≡ length result }
-{
-    [0; 163840]
-}
-
 fn refuse(rt: &impl Print, r: Refusal) -> io::Result<()> {
-    labelled(rt, b"refused ", r.number() as u64)?;
-    text(rt, b"\n")
+    println!(rt; "refused {}", r.number())
 }
 
 // Below, `line` is lent for the contracts alone: the table is the one that the line asks for.
@@ -34,30 +26,30 @@ fn send(rt: &impl Print, line: &[u8], shape: Shape, bytes: &[u8], end: usize) ->
     if bytes.len() < end {
         return Ok(());
     }
-    text(rt, &bytes[0..end])
+    rt.write_all(&bytes[..end])
 }
 
-// Number 5 never comes: no field of a built table is too wide.
+// Number 5 never comes: no field of a built table is too wide. There is room for the longest text, that of
+// (15,15): 32,768 lines of four digits and a newline.
 fn write(rt: &impl Print, line: &[u8], shape: Shape, table: &[u16]) -> io::Result<()>
     requires { (line_read line.now ≡ asks shape) × (memory_text shape table.now ≡ best_text shape) }
 {
-    let mut space = blank();
+    let mut space = [0u8; 163840];
     let bytes: &mut [u8] = &mut space;
     match write_memory(shape, table, bytes) {
-        WriteAnswer::Written(end) => send(rt, line, shape, bytes, end.0),
-        WriteAnswer::TooWide(_) => text(rt, b"refused 5\n"),
-        WriteAnswer::Refused(r) => refuse(rt, r),
+        Ok(end) => send(rt, line, shape, bytes, end.0),
+        Err(fault) => println!(rt; "refused {}", fault.number()),
     }
 }
 
 fn write_best(rt: &impl Print, line: &[u8], shape: Shape) -> io::Result<()>
     requires { line_read line.now ≡ asks shape }
 {
-    let mut cells = zeroed();
+    let mut cells = [0u16; 32768];
     let table: &mut [u16] = &mut cells;
     match build(shape, table) {
-        Outcome::Done => write(rt, line, shape, table),
-        Outcome::Refused(r) => refuse(rt, r),
+        Ok(()) => write(rt, line, shape, table),
+        Err(r) => refuse(rt, r),
     }
 }
 
@@ -67,7 +59,7 @@ fn main(rt: HostRuntime) -> io::Result<()> {
     let got = read_full(&rt, &mut input);
     let line = &input[..got];
     match read_line(line) {
-        Reading::Asks(shape) => write_best(&rt, line, shape),
-        Reading::Refused(r) => refuse(&rt, r),
+        Ok(shape) => write_best(&rt, line, shape),
+        Err(r) => refuse(&rt, r),
     }
 }

@@ -10,5 +10,5 @@ use Rattle.memory.proofs.write_best.Goals as goal
 pub write-requires : goal.write-requires
 write-requires g c =
     let s = c.args.shape in
-    let good = table_good (done_so (table_tests s _) (omega arith) c.in-Done.is c.build.ensures.answer) in
-    (c.requires, ap (memory_text s) c.build.ensures.cells ∙ built_text s c.zeroed-cells.result good)
+    let good = table_good (done_so (table_tests s _) (omega arith) c.in-Ok.ensures.answer) in
+    (c.requires, ap (memory_text s) c.in-Ok.ensures.cells ∙ built_text s _ good)
