@@ -1,5 +1,5 @@
 // Numbers drawn by a generator, the same on every run.
-ghost use Rattle.std.specs.Prelude.{◌<◌, ◌≤◌};
+ghost use Rattle.std.specs.Prelude.{◌≡◌, ◌<◌, ◌≤◌};
 
 use units::Kind;
 
@@ -7,7 +7,9 @@ use units::Kind;
 pub struct Draws(u64);
 
 impl Draws {
-    pub fn start() -> Draws {
+    pub fn start() -> Draws
+        ensures { result.0 ≡ 1 }
+    {
         Draws(1)
     }
 
