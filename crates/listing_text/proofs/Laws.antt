@@ -1,3 +1,4 @@
 pub mod Decimal
+pub mod Put
 pub mod Pages
 pub mod Listing

@@ -1,6 +1,7 @@
 pub mod Given
 pub mod Obey
 pub mod Reached
+pub mod Came
 pub mod Digits
 pub mod Lines
 pub mod Layout

@@ -4,6 +4,7 @@ ghost use Rattle.std.specs.Prelude.{◌≡◌, ◌<◌, ◌≤◌};
 use units::Kind;
 
 // The generator of Park and Miller, which starts at 1.
+#[derive(Drop)]
 pub struct Draws(u64);
 
 impl Draws {

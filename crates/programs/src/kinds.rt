@@ -3,6 +3,7 @@ use std::fmt;
 use units::{Kind, Shape};
 
 // "k m", or "k m one".
+#[derive(Clone, Copy)]
 pub struct Named(pub Shape);
 
 impl fmt::Display for Named {

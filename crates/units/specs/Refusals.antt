@@ -1,5 +1,5 @@
 -- Document 01, "Refusal numbers and their order", and the numbers of document 02. Assumes nothing.
-use Rattle.std.specs.Prelude.{ℕ, ◌^◌, Bool, ◌||◌, cond, List, [], ◌∷◌, ◌++◌, ltb, leb, Result, Ok, Err}
+use Rattle.std.specs.Prelude.{ℕ, ◌^◌, Bool, ◌||◌, cond, List, [], ◌∷◌, ◌++◌, ltb, leb, eqb, Result, Ok, Err}
 use Rattle.units.specs.declared.refusals.Refusal.{Refusal}
 use Rattle.units.specs.declared.refusals.Refusal.TheVariants.{InputWidth, OutputWidth, FewCells, Place, Divisor, Line, ShortText}
 use Rattle.units.specs.declared.refusals.Fault.{Fault}
@@ -55,6 +55,10 @@ answer refuse done (t ∷ ts) = cond t.holds (refuse t.gives) (answer refuse don
 -- the number alone, and the n that it names
 abbrev pub refusal : List Test → Reply
 refusal ts = answer (λ (b : Reply). b) (reply 0 0) ts
+
+-- the first of two
+abbrev pub then_reply : Reply → Reply → Reply
+then_reply first second = cond (eqb first.number 0) second first
 
 -- x is not from least to most
 unfoldable pub outside : ℕ → ℕ → ℕ → Bool

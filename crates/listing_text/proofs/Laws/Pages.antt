@@ -5,7 +5,7 @@ use mathlib.Core.List.{List, [], ◌++◌, append_assoc, append-nil}
 use native.Mathlib.Nat.{suc-add, zero-add, add-zero}
 use native.Mathlib.Omega.{arith}
 use borrow.Author.Tests.{lt-ltb, le-ltb}
-use lib.ListN.{take, get_or}
+use lib.ListN.{length, take, get_or}
 use Rattle.units.specs.declared.shapes.Shape.{Shape}
 use Rattle.entry.specs.Inner.Good.{GoodPlace, GoodEntry}
 use Rattle.entry.specs.Errors.{j_of}
@@ -13,7 +13,7 @@ use Rattle.entry.proofs.Laws.Good.{good_field}
 use Rattle.entry.proofs.Laws.Table.{rule_field_narrow}
 use Rattle.survey.specs.Finding.{Figures}
 use Rattle.listing_text.specs.Text.{first_line, entry_line, last_line, refused_line}
-use Rattle.listing_text.specs.Inner.Pages.{Put, Listed, IsPart}
+use Rattle.listing_text.specs.Inner.Pages.{Put, line_most, Listed, IsPart, Paged}
 use Rattle.entry.specs.Rule.{rule_field}
 use Rattle.listing_text.specs.Listing.{Lines, line_of, lines_from, part, best_figures, refused_text, text_for, listing}
 
@@ -68,6 +68,38 @@ pub listed_entry : (s : Shape) (n : ℕ) {cells : List ℕ} {w : Figures} → Li
 listed_entry s n listed h =
     let place : GoodPlace s n = record { widths = listed.good.widths; interval = h } in
     rw (listed.fields n h) (good_field (rule_field s n) place (rule_field_narrow s h))
+
+-- a page that holds the lines from `from` up to `next` in its bytes up to `end`, and has room for the next one
+pub record Ready (text : Lines) (from : ℕ) (page : List ℕ) (next end : ℕ) : Type 0 where
+  pub onward : from ≤ next
+  pub more : next < text.count
+  pub room : end + line_most ≤ length page
+  pub text_is : take end page ≡ part text from next
+
+pub ready_first : (text : Lines) (from : ℕ) (page : List ℕ) → from < text.count → line_most ≤ length page → Ready text from page from 0
+ready_first text from page h i =
+    record { onward = omega arith; more = h; room = omega arith; text_is = sym (lines_none text.line from) }
+
+pub ready_again : {text : Lines} {from next end : ℕ} {page : List ℕ} → Paged text from page next end → next < text.count
+    → end + line_most ≤ length page
+    → Ready text from page next end
+ready_again p h i =
+    record { onward = omega (arith, p.lines.some); more = h; room = i; text_is = p.lines.bytes_are }
+
+-- where the next line is put, the page holds one more
+pub page_more : (text : Lines) (from : ℕ) {next at end : ℕ} {before after : List ℕ} → Ready text from before next at
+    → Put (text.line next) line_most before at after end
+    → Paged text from after (next + 1) end
+page_more text from {next} r p =
+    record {
+      inside = omega (arith, r.room, p.size, p.room);
+      lines =
+          record {
+            some = omega (arith, r.onward);
+            within = omega (arith, r.more);
+            bytes_are = p.text_is ∙ ap (λ (x : List ℕ). x ++ text.line next) r.text_is ∙ sym (lines_more text.line from next r.onward);
+          };
+    }
 
 -- which line is put, and what an entry's needs
 pub ruleset put_lines = (line_of_first, line_of_entry, line_of_last, listed_entry)

@@ -2,7 +2,8 @@
 use Prim.Native.Nat.{ℕ, ◌+◌, ◌≤◌, ◌<◌}
 use mathlib.Core.Bool.{Bool, true, false}
 use mathlib.Core.List.{List, [], ◌∷◌}
-use mathlib.Core.Path.{◌≡◌, refl, sym, ap, ◌∙◌}
+use mathlib.Core.Path.{◌≡◌, refl, sym, ap, subst, ◌∙◌}
+use Rattle.std.specs.Prelude.{Option, Some, None, Result, Ok, Err}
 use native.Mathlib.Omega.{arith}
 use native.Mathlib.Nat.{add-zero}
 use lib.Dec.{eqb}
@@ -10,8 +11,12 @@ use lib.ListN.{length, get_or}
 use mir.Val.{bool_byte}
 use Rattle.memory_tokens.specs.Tokens.{Token, token, unfinished, outside}
 use Rattle.memory_tokens.specs.Words.{digit_of, is_digit, is_numeral, is_address, numeral_of, at_sign}
-use Rattle.memory_tokens.specs.Inner.Places.{tokens_from, word_from, ends_at, NumeralIs, says_address, number_said, IsFaulty, SaysSo}
+use Rattle.memory_tokens.specs.Inner.Places.{tokens_from, word_from, ends_at, IsTokenAt, NumeralIs, NumeralAt, says_address, number_said, IsFaulty, SaysSo, said, TokenAt, NextToken}
+use Rattle.memory_tokens.specs.declared.numerals.Numeral.{Numeral}
+use Rattle.memory_tokens.specs.declared.words.Faulty.{Faulty}
+use Rattle.memory_tokens.specs.declared.words.Word.{Word}
 use Rattle.memory_tokens.specs.declared.words.Said.{Said}
+use Rattle.memory_tokens.specs.declared.words.Said.TheVariants.{Address, Value}
 use Rattle.memory_tokens.proofs.Laws.Places.{token_begins, token_goes_on, word_goes_on}
 
 -- where the number of a token begins, as the code has it: of an address, one byte later
@@ -65,7 +70,34 @@ module _ (text : List ℕ) (from : ℕ) (inside : from < length text) (begins : 
         within = n.left.within;
       }
 
+  -- either, by its number: what a token at a place says
+  pub token_said : (address : Bool) → eqb (get_or text from 0) at_sign ≡ address → (n : Option Numeral) → NumeralAt text (from + bool_byte address) n
+      → TokenAt text from (said from address n)
+  token_said address e None p =
+      token_faulty (ap (λ (b : Bool). is_numeral (word_from text (from + bool_byte b))) e ∙ p)
+  token_said true e (Some n) p = token_says (Address n.value) (subst (λ (b : Bool). NumeralIs text (from + bool_byte b) n.value n.end) (sym e) p) e
+  token_said false e (Some n) p = token_says (Value n.value) (subst (λ (b : Bool). NumeralIs text (from + bool_byte b) n.value n.end) (sym e) p) e
+
+pub byte_small : (b : Bool) → bool_byte b ≤ 1
+byte_small true = omega arith
+byte_small false = omega arith
+
 -- an unfinished comment is a faulty token
 pub unfinished_is_faulty : (text : List ℕ) (from at : ℕ) → tokens_from text (outside false) from ≡ unfinished at ∷ [] → IsFaulty text from at
 unfolding is_numeral numeral_of is_digit digit_of
 unfinished_is_faulty text from at e = record { first = unfinished at; rest = []; tokens_are = e; offset_is = refl; bad = refl }
+
+-- after a gap
+pub next_after_gap : (text : List ℕ) (from at : ℕ) → IsTokenAt text from at → (r : Result (Option (Word × ℕ)) Faulty) → NextToken text at r
+    → NextToken text from r
+next_after_gap text from at gap (Ok None) p = gap.left.same ∙ p
+next_after_gap text from at gap (Ok (Some says)) p =
+    record {
+      first = p.first;
+      tokens_are = gap.left.same ∙ p.tokens_are;
+      says_it = p.says_it;
+      later = omega (arith, p.later, gap.left.later);
+      within = p.within;
+    }
+next_after_gap text from at gap (Err faulty) p =
+    record { first = p.first; rest = p.rest; tokens_are = gap.left.same ∙ p.tokens_are; offset_is = p.offset_is; bad = p.bad }

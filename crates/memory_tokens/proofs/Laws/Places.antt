@@ -1,11 +1,11 @@
 -- The tokens that a text has from a place on, one byte after the other: each clause of their definition. Assumes nothing.
 use Prim.Native.Nat.{ℕ, suc, ◌+◌, ◌≤◌, ◌<◌}
-use mathlib.Core.Bool.{Bool, true, false}
+use mathlib.Core.Bool.{Bool, true, false, cond}
 use mathlib.Core.List.{List, [], ◌∷◌}
-use mathlib.Core.Path.{◌≡◌, refl}
+use mathlib.Core.Path.{◌≡◌, refl, sym, ◌∙◌}
 use native.Mathlib.Numerals.{add-one}
 use native.Mathlib.Omega.{arith}
-use borrow.Author.Tests.{ne_eqb}
+use borrow.Author.Tests.{eq-eqb, ne_eqb}
 use lib.Dec.{eqb}
 use lib.ListN.{length, drop, get_or, drop_of_length-le}
 use lib.Seq.{drop-cons}
@@ -45,13 +45,13 @@ module _ (text : List ℕ) where
   unfolding tokens_in
   text_ends begun at h = rw (drop_of_length-le text h)
 
-  pub line_cut : (from at : ℕ) → length text ≤ at → tokens_from text (comment true from false) at ≡ tokens_from text (outside false) at
+  pub comment_cut : (line : Bool) (from : ℕ) (starred : Bool) (at : ℕ) → length text ≤ at
+      → tokens_from text (comment line from starred) at ≡ cond line [] (unfinished from ∷ [])
   unfolding tokens_in
-  line_cut from at h = rw (drop_of_length-le text h)
+  comment_cut line from starred at h = rw (drop_of_length-le text h)
 
-  pub block_cut : (from : ℕ) (starred : Bool) (at : ℕ) → length text ≤ at → tokens_from text (comment false from starred) at ≡ unfinished from ∷ []
-  unfolding tokens_in
-  block_cut from starred at h = rw (drop_of_length-le text h)
+  pub line_cut : (from at : ℕ) → length text ≤ at → tokens_from text (comment true from false) at ≡ tokens_from text (outside false) at
+  line_cut from at h = comment_cut true from false at h ∙ sym (text_ends false at h)
 
   pub word_past : (at : ℕ) → length text ≤ at → word_from text at ≡ []
   unfolding word_of
@@ -72,25 +72,27 @@ module _ (text : List ℕ) where
     unfolding tokens_in
     block_begins begun n e = rw (add-one at, drop-cons text at 0 h, comment_not_white star (get_or text at 0) (drop (suc at) text) e, n, e)
 
+    module _ (line : Bool) (from : ℕ) (starred : Bool) where
+      pub comment_closes : closes line from starred at (get_or text at 0) ≡ true
+          → tokens_from text (comment line from starred) at ≡ tokens_from text (outside false) (at + 1)
+      unfolding tokens_in
+      comment_closes e = rw (add-one at, drop-cons text at 0 h, e)
+
+      pub comment_goes_on : closes line from starred at (get_or text at 0) ≡ false
+          → tokens_from text (comment line from starred) at ≡ tokens_from text (comment line from (eqb (get_or text at 0) star)) (at + 1)
+      unfolding tokens_in
+      comment_goes_on e = rw (add-one at, drop-cons text at 0 h, e)
+
+    -- a comment to the end of the line, in which a star does not matter
     module _ (from : ℕ) where
       pub line_closes : get_or text at 0 ≡ newline → tokens_from text (comment true from false) at ≡ tokens_from text (outside false) (at + 1)
-      unfolding tokens_in closes
-      line_closes e = rw (add-one at, drop-cons text at 0 h, e)
+      unfolding closes
+      line_closes e = comment_closes true from false (eq-eqb (get_or text at 0) newline e)
 
       pub line_goes_on : get_or text at 0 ≢ newline → tokens_from text (comment true from false) at ≡ tokens_from text (comment true from false) (at + 1)
-      unfolding tokens_in closes
-      line_goes_on e = rw (add-one at, drop-cons text at 0 h, ne_eqb (get_or text at 0) newline e) (line_starred from _ (suc at) (drop (suc at) text))
-
-      module _ (starred : Bool) where
-        pub block_closes : closes false from starred at (get_or text at 0) ≡ true
-            → tokens_from text (comment false from starred) at ≡ tokens_from text (outside false) (at + 1)
-        unfolding tokens_in
-        block_closes e = rw (add-one at, drop-cons text at 0 h, e)
-
-        pub block_goes_on : closes false from starred at (get_or text at 0) ≡ false
-            → tokens_from text (comment false from starred) at ≡ tokens_from text (comment false from (eqb (get_or text at 0) star)) (at + 1)
-        unfolding tokens_in
-        block_goes_on e = rw (add-one at, drop-cons text at 0 h, e)
+      unfolding closes
+      line_goes_on e =
+          comment_goes_on true from false (ne_eqb (get_or text at 0) newline e) ∙ line_starred from (eqb (get_or text at 0) star) (at + 1) (drop (at + 1) text)
 
     -- a token begins, goes on, and ends
     module _ (e : ends_at text at ≡ false) where

@@ -94,6 +94,12 @@ says w = record { offset = w.from.0; formed = true; address = says_address w.say
 abbrev pub capped_saying : Saying → Saying
 capped_saying t = record { offset = t.offset; formed = t.formed; address = t.address; value = capped t.value }
 
+-- a token at a place, by its number
+abbrev pub said : ℕ → Bool → Option Numeral → Result (Word × ℕ) Faulty
+said from address None = Err (record { 0 = record { 0 = from } })
+said from true (Some n) = Ok (record { from = record { 0 = from }; says = Address n.value }, n.end)
+said from false (Some n) = Ok (record { from = record { 0 = from }; says = Value n.value }, n.end)
+
 -- the next token: none; a faulty one; one that says something, and what is left after it
 pub record IsFaulty (text : List ℕ) (at offset : ℕ) : Type 0 where
   pub first : Token

@@ -2,13 +2,13 @@
 use Prim.Native.Nat.{ℕ, ◌≤◌, ◌<◌}
 use mathlib.Core.Bool.{Bool, true, false, cond, ◌||◌, false≢true}
 use mathlib.Core.List.{List, [], ◌∷◌, ◌++◌}
-use mathlib.Core.Path.{◌≡◌, refl, sym, ap, ◌∙◌}
+use mathlib.Core.Path.{◌≡◌, refl, sym, ap, ap₂, ◌∙◌}
 use native.Mathlib.Omega.{arith}
-use borrow.Author.Tests.{ltb-false, le-ltb, eqb-false}
+use borrow.Author.Tests.{ltb-false, le-ltb, ne_eqb, eqb-false}
 use lib.Dec.{ltb, eqb}
 use Rattle.units.specs.declared.refusals.Fault.{Fault}
 use Rattle.units.specs.declared.refusals.Fault.TheVariants.{TooWide, Refused}
-use Rattle.units.specs.Refusals.{Reply, reply, fault_reply, refusal_number, Test, answer, refusal, outside}
+use Rattle.units.specs.Refusals.{Reply, reply, fault_reply, refusal_number, Test, answer, refusal, then_reply, outside}
 use Rattle.std.specs.Prelude.{Result, Ok, Err, IsErrAnd}
 use Rattle.units.specs.declared.refusals.Refusal.{Refusal}
 use Rattle.units.specs.declared.refusals.Refusal.TheVariants.{InputWidth, OutputWidth, FewCells, Place, Divisor, Line, ShortText}
@@ -85,6 +85,21 @@ unfolding answer
 answer_when refuse done done' [] e = e tt
 answer_when refuse done done' (t ∷ ts) e =
     cond_when t.holds (refuse t.gives) (λ passes. answer_when refuse done done' ts (λ rest. e (passes, rest)))
+
+-- one list of tests, and another after it
+then_joins : (ts rest : List Test) → Numbered ts → refusal (ts ++ rest) ≡ then_reply (refusal ts) (refusal rest)
+unfolding answer
+then_joins [] rest p = refl
+then_joins (t ∷ ts) rest p = join t.holds t.gives p.0 (refusal (ts ++ rest)) (refusal ts) (then_joins ts rest p.1)
+  where
+    join : (holds : Bool) (gives : Reply) → 0 < gives.number → (all some : Reply) → all ≡ then_reply some (refusal rest)
+        → cond holds gives all ≡ then_reply (cond holds gives some) (refusal rest)
+    join true gives h all some e = sym (simp (ne_eqb gives.number 0 (λ z. omega arith)))
+    join false gives h all some e = e
+
+pub then_is : (ts rest : List Test) → Numbered ts → {a b both : Reply} → both ≡ then_reply a b → a ≡ refusal ts → b ≡ refusal rest
+    → both ≡ refusal (ts ++ rest)
+then_is ts rest p e a b = e ∙ ap₂ then_reply a b ∙ sym (then_joins ts rest p)
 
 -- one list passed, and the other; and back
 pub passed_parts : (ts rest : List Test) → Passed (ts ++ rest) → Passed ts × Passed rest

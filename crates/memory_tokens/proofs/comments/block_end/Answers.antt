@@ -2,16 +2,16 @@
 -- comment or the text ends. Assumes nothing.
 use native.Mathlib.Omega.{arith}
 use Rattle.memory_tokens.specs.Tokens.{closes}
-use Rattle.memory_tokens.proofs.Laws.Places.{block_closes, block_goes_on, block_cut}
+use Rattle.memory_tokens.proofs.Laws.Places.{comment_closes, comment_goes_on, comment_cut}
 use Rattle.memory_tokens.proofs.comments.block_end.Goals as goal
 
 pub loop-at-preserved : goal.loop-at-preserved
 unfolding closes
-loop-at-preserved c = grind (arith, block_goes_on)
+loop-at-preserved c = grind (arith, comment_goes_on)
 
 pub returns-then-at-from-ge3 : goal.returns-then-at-from-ge3
 unfolding closes
-returns-then-at-from-ge3 c = grind (arith, block_closes)
+returns-then-at-from-ge3 c = grind (arith, comment_closes)
 
 pub returns : goal.returns
-returns c = grind (arith, block_cut)
+returns c = grind (arith, comment_cut)
