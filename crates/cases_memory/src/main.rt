@@ -7,7 +7,7 @@
 // `second memory`.
 #![tactic(auto)]
 
-ghost use Rattle.std.specs.Prelude.{◌≤◌};
+ghost use Rattle.std.specs.Prelude.{◌≤◌, ◌<◌};
 
 mod drawing;
 mod text;
@@ -24,6 +24,7 @@ struct Numbers {
     number: u32,
     place: usize,
     n: u32,
+    ghost known: { number < 18 },
 }
 
 impl From<Result<Offset, Fault>> for Numbers {
@@ -92,15 +93,14 @@ fn tables(rt: &impl Print, kind: Kind) -> io::Result<()> {
     Ok(())
 }
 
-// How often each number was given. None is above 17.
+// How often each number was given.
 #[derive(Clone, Copy)]
 struct Counts([u64; 18]);
 
 impl Counts {
-    fn add(&mut self, number: u32) {
-        if let Some(count) = self.0.get_mut(number as usize) {
-            *count = count.wrapping_add(1);
-        }
+    fn add(&mut self, a: Numbers) {
+        let number = a.number as usize;
+        self.0[number] = self.0[number].wrapping_add(1);
     }
 
     // " number:count" of some numbers.
@@ -183,7 +183,7 @@ impl Drive {
         let cells = &mut self.cells[..];
         let answer = self.text.read(i.shape, &mut cells[..i.lent]);
         let a = Numbers::from(answer);
-        self.reads.add(a.number);
+        self.reads.add(a);
         self.stir(a);
         self.digest.stir_all(&self.cells);
     }
@@ -194,7 +194,7 @@ impl Drive {
     {
         let answer = self.text.write(i.shape, &self.cells[..i.lent], room);
         let a = Numbers::from(answer);
-        self.writes.add(a.number);
+        self.writes.add(a);
         self.stir(a);
         self.digest.stir_all(&self.text.bytes);
         a
