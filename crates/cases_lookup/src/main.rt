@@ -1,6 +1,6 @@
-// Looks up every divisor from 1 to 65535 in three built tables, and then divisors at the ends of what
-// is let in and past them. The file `stdout` is not this program's output: the program in `second/`,
-// which tries every shift, wrote it by `second lookups`.
+// Looks up every divisor from 1 to 65535 in eight built tables, four of each kind, and then divisors at
+// the ends of what is let in and past them. The file `stdout` is not this program's output: the program
+// in `second/`, which tries every shift, wrote it by `second lookups`.
 #![tactic(auto)]
 
 ghost use Rattle.std.specs.Prelude.{◌≤◌};
@@ -53,6 +53,8 @@ fn print_name(rt: &impl Print, shape: Shape) -> io::Result<()> {
     let Named(_) = name;
     printed
 }
+
+// Below, the cells are one more than the largest table has, each with a number that is no field of any.
 
 // "k m digest", or "k m one digest"
 fn all(rt: &impl Print, k: u32, m: u32, kind: Kind) -> io::Result<()> {
