@@ -1,10 +1,10 @@
-// Writes and reads memory texts: first the best tables of five shapes, there and back, and then 12,000
-// rounds in which a pseudo-random text is read, damaged, read again, and written over, so that every
-// number of both calls comes up. Every answer, and all cells or bytes after it, go into a digest, of
-// which a line is written after each 1000 rounds: "rounds digest". Last it writes how often each number
-// was given. The order of the draws and what is folded into the digest are those of `second/README.md`,
-// "Mode 4". The file `stdout` is not this program's output: the program in `second/` wrote it by
-// `second memory`.
+// Writes and reads memory texts: first the best tables of six shapes of both kinds, there and back, and
+// then 12,000 rounds in which a pseudo-random text is read, damaged, read again, and written over, so
+// that every number of both calls comes up. Every answer, and all cells or bytes after it, go into a
+// digest, of which a line is written after each 1000 rounds: "rounds digest". Last it writes how often
+// each number was given. The order of the draws and what is folded into the digest are those of
+// `second/README.md`, "Mode 4". The file `stdout` is not this program's output: the program in `second/`
+// wrote it by `second memory`.
 #![tactic(auto)]
 
 ghost use Rattle.std.specs.Prelude.{◌≤◌, ◌<◌};
@@ -103,10 +103,10 @@ impl Counts {
         self.0[number] = self.0[number].wrapping_add(1);
     }
 
-    // " number:count" of some numbers.
+    // " number:count" of each of some numbers, which rise.
     fn print(&self, rt: &impl Print, numbers: &[usize]) -> io::Result<()> {
-        for &number in numbers {
-            if let Some(count) = self.0.get(number) {
+        for (number, &count) in self.0.iter().enumerate() {
+            if numbers.contains(&number) {
                 print!(rt; " {number}:{count}")?;
             }
         }
@@ -180,6 +180,7 @@ impl Drive {
 
     // The number, the offset and n, and all cells after the call, those that were not lent too.
     fn read(&mut self, i: Inputs) {
+        // The borrow checker does not cover `&mut self.cells[..i.lent]` in one step beside the text.
         let cells = &mut self.cells[..];
         let answer = self.text.read(i.shape, &mut cells[..i.lent]);
         let a = Numbers::from(answer);
