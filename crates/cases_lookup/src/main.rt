@@ -1,111 +1,86 @@
-// Looks up every divisor from 1 to 65535 in three built tables, and then divisors at the ends of what
-// is let in and past them. The file `stdout` is not this program's output: the program in `second/`,
-// which tries every shift, wrote it by `second lookups`.
+// Looks up every divisor from 1 to 65535 in eight built tables, four of each kind, and then divisors at
+// the ends of what is let in and past them. The file `stdout` is not this program's output: the program
+// in `second/`, which tries every shift, wrote it by `second lookups`.
 #![tactic(auto)]
 
-ghost use Rattle.std.specs.Prelude.{◌<◌};
+ghost use Rattle.std.specs.Prelude.{◌≤◌};
 
-use programs::{column, long_column, marked, shape_named, stir, text};
-use recip::{Kind, LookupAnswer, Outcome, Shape, build, look_up, show_bank};
-use std::io;
+use programs::{Digest, Named};
+use recip::{Fault, Found, Kind, Shape, build, look_up, show_bank};
+use std::{fmt, io};
 
 const DIVISORS: [u32; 11] = [
     0, 1, 2, 3, 32767, 32768, 40960, 65535, 65536, 2147483648, 4294967295,
 ];
 
-// The document's numbers of an answer.
-#[derive(Drop)]
-struct Numbers {
-    number: u32,
-    s: u32,
-    n: u32,
-    j: u32,
-}
+// The documents' numbers of an answer: number, s, n and j.
+#[derive(Clone, Copy)]
+struct Numbers([u32; 4]);
 
-fn numbers_of(a: LookupAnswer) -> Numbers {
-    match a {
-        LookupAnswer::Found { s, n, j } => Numbers {
-            number: 0,
-            s: s.0,
-            n: n.0,
-            j: j.0,
-        },
-        LookupAnswer::TooWide(n) => Numbers {
-            number: 5,
-            s: 0,
-            n: n.0,
-            j: 0,
-        },
-        LookupAnswer::Refused(r) => Numbers {
-            number: r.number(),
-            s: 0,
-            n: 0,
-            j: 0,
-        },
+impl From<Result<Found, Fault>> for Numbers {
+    fn from(answer: Result<Found, Fault>) -> Numbers {
+        match answer {
+            Ok(found) => Numbers([0, found.s.0, found.n.0, found.j.0]),
+            Err(fault) => Numbers([fault.number(), 0, fault.n().0, 0]),
+        }
     }
 }
 
-// The digest of one answer more.
-fn stir_answer(digest: u64, a: LookupAnswer) -> u64 {
-    let found = numbers_of(a);
-    let shifted = stir(stir(digest, found.number as u64), found.s as u64);
-    stir(stir(shifted, found.n as u64), found.j as u64)
+impl fmt::Display for Numbers {
+    fn fmt<W: fmt::Write>(&self, f: &mut fmt::Formatter<W>) -> fmt::Result {
+        let [number, s, n, j] = self.0;
+        write!(f, "{number} {s} {n} {j}")
+    }
+}
+
+fn numbers_of(shape: Shape, x: u32, table: &[u16]) -> Numbers {
+    look_up(shape, x, table).into()
 }
 
 // The digest of the answers for every divisor.
 fn every_divisor(shape: Shape, table: &[u16]) -> u64 {
-    let mut digest = 0;
+    let mut digest = Digest::new();
     for x in 1..65536 {
-        digest = stir_answer(digest, look_up(shape, x, table));
+        digest.stir_all(&numbers_of(shape, x, table).0);
     }
-    digest
+    digest.value()
 }
+
+// "k m", or "k m one". The name is taken apart at the end, since it cannot be dropped.
+fn print_name(rt: &impl Print, shape: Shape) -> io::Result<()> {
+    let name = Named(shape);
+    let printed = print!(rt; "{name}");
+    let Named(_) = name;
+    printed
+}
+
+// Below, the cells are one more than the largest table has, each with a number that is no field of any.
 
 // "k m digest", or "k m one digest"
 fn all(rt: &impl Print, k: u32, m: u32, kind: Kind) -> io::Result<()> {
     let shape = Shape::of(k, m, kind);
-    shape_named(rt, shape)?;
-    let mut cells = marked();
-    let built: Outcome = build(shape, &mut cells);
-    long_column(rt, every_divisor(shape, show_bank(k, 0, 0, &cells)))?;
-    text(rt, b"\n")
-}
-
-fn answer(rt: &impl Print, a: LookupAnswer) -> io::Result<()> {
-    let found = numbers_of(a);
-    column(rt, found.number)?;
-    column(rt, found.s)?;
-    column(rt, found.n)?;
-    column(rt, found.j)
-}
-
-fn look_in(rt: &impl Print, shape: Shape, x: u32, lent: usize, cells: &[u16]) -> io::Result<()> {
-    if cells.len() < lent {
-        return Ok(());
-    }
-    answer(rt, look_up(shape, x, &cells[0..lent]))
+    let mut cells = [43981; 32769];
+    let _ = build(shape, &mut cells);
+    let digest = every_divisor(shape, show_bank(k, 0, 0, &cells));
+    print_name(rt, shape)?;
+    println!(rt; " {digest}")
 }
 
 // "k m X cells: number s n j, number s n j", or "k m one X ..", first in cells of 43981 and then in a
 // built table
-fn look(rt: &impl Print, k: u32, m: u32, kind: Kind, x: u32, lent: usize) -> io::Result<()> {
+fn look(rt: &impl Print, k: u32, m: u32, kind: Kind, x: u32, lent: usize) -> io::Result<()>
+    requires { lent ≤ 32769 }
+{
     let shape = Shape::of(k, m, kind);
-    shape_named(rt, shape)?;
-    column(rt, x)?;
-    long_column(rt, lent as u64)?;
-    text(rt, b":")?;
-    let mut cells = marked();
-    look_in(rt, shape, x, lent, &cells)?;
-    text(rt, b",")?;
-    let built: Outcome = build(shape, &mut cells);
-    look_in(rt, shape, x, lent, &cells)?;
-    text(rt, b"\n")
+    let mut cells = [43981; 32769];
+    let before = numbers_of(shape, x, &cells[..lent]);
+    let _ = build(shape, &mut cells);
+    let after = numbers_of(shape, x, &cells[..lent]);
+    print_name(rt, shape)?;
+    println!(rt; " {x} {lent}: {before}, {after}")
 }
 
-fn divisor_case(rt: &impl Print, c: usize) -> io::Result<()>
-    requires { c < 11 }
-{
-    let x = DIVISORS[c];
+fn looks(rt: &impl Print, x: u32) -> io::Result<()> {
     look(rt, 5, 5, Kind::Plain, x, 31)?;
     look(rt, 5, 5, Kind::Plain, x, 32)?;
     look(rt, 1, 15, Kind::Plain, x, 2)?;
@@ -116,22 +91,18 @@ fn divisor_case(rt: &impl Print, c: usize) -> io::Result<()>
     look(rt, 5, 3, Kind::WithOne, x, 32)
 }
 
-fn divisors(rt: &impl Print) -> io::Result<()> {
-    for c in 0..11 {
-        divisor_case(rt, c)?;
+fn all_of(rt: &impl Print, kind: Kind) -> io::Result<()> {
+    for (k, m) in [(1, 1), (5, 5), (15, 15), (12, 3)] {
+        all(rt, k, m, kind)?;
     }
     Ok(())
-}
-
-fn all_of(rt: &impl Print, kind: Kind) -> io::Result<()> {
-    all(rt, 1, 1, kind)?;
-    all(rt, 5, 5, kind)?;
-    all(rt, 15, 15, kind)?;
-    all(rt, 12, 3, kind)
 }
 
 fn main(rt: HostRuntime) -> io::Result<()> {
     all_of(&rt, Kind::Plain)?;
     all_of(&rt, Kind::WithOne)?;
-    divisors(&rt)
+    for x in DIVISORS {
+        looks(&rt, x)?;
+    }
+    Ok(())
 }
