@@ -7,10 +7,7 @@
 
 ghost use Rattle.std.specs.Prelude.{◌≤◌};
 
-mod drawing;
-
-use drawing::Draws;
-use programs::{Digest, digest_of};
+use programs::{Digest, Draws, digest_of};
 use recip::{
     Error, Errors, Fault, Finding, Found, Interval, NotPassed, NotTaken, Refusal, Shape, Tally,
     build, build_bank, check_table, entry_error, look_up, number_of, show_bank, show_bank_number,

@@ -46,14 +46,6 @@ fn every_divisor(shape: Shape, table: &[u16]) -> u64 {
     digest.value()
 }
 
-// "k m", or "k m one". The name is taken apart at the end, since it cannot be dropped.
-fn print_name(rt: &impl Print, shape: Shape) -> io::Result<()> {
-    let name = Named(shape);
-    let printed = print!(rt; "{name}");
-    let Named(_) = name;
-    printed
-}
-
 // Below, the cells are one more than the largest table has, each with a number that is no field of any.
 
 // "k m digest", or "k m one digest"
@@ -62,8 +54,7 @@ fn all(rt: &impl Print, k: u32, m: u32, kind: Kind) -> io::Result<()> {
     let mut cells = [43981; 32769];
     let _ = build(shape, &mut cells);
     let digest = every_divisor(shape, show_bank(k, 0, 0, &cells));
-    print_name(rt, shape)?;
-    println!(rt; " {digest}")
+    println!(rt; "{} {digest}", Named(shape))
 }
 
 // "k m X cells: number s n j, number s n j", or "k m one X ..", first in cells of 43981 and then in a
@@ -76,8 +67,7 @@ fn look(rt: &impl Print, k: u32, m: u32, kind: Kind, x: u32, lent: usize) -> io:
     let before = numbers_of(shape, x, &cells[..lent]);
     let _ = build(shape, &mut cells);
     let after = numbers_of(shape, x, &cells[..lent]);
-    print_name(rt, shape)?;
-    println!(rt; " {x} {lent}: {before}, {after}")
+    println!(rt; "{} {x} {lent}: {before}, {after}", Named(shape))
 }
 
 fn looks(rt: &impl Print, x: u32) -> io::Result<()> {

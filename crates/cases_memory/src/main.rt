@@ -9,11 +9,9 @@
 
 ghost use Rattle.std.specs.Prelude.{◌≤◌, ◌<◌};
 
-mod drawing;
 mod text;
 
-use drawing::Draws;
-use programs::{Digest, Named, digest_of};
+use programs::{Digest, Draws, Named, digest_of};
 use recip::{Fault, Kind, Offset, ReadError, Shape, build, read_memory, write_memory};
 use std::{fmt, io};
 use text::Text;
@@ -58,14 +56,6 @@ impl fmt::Display for Numbers {
     }
 }
 
-// "k m", or "k m one". The name is taken apart at the end, since it cannot be dropped.
-fn print_name(rt: &impl Print, shape: Shape) -> io::Result<()> {
-    let name = Named(shape);
-    let printed = print!(rt; "{name}");
-    let Named(_) = name;
-    printed
-}
-
 // "k m number length n digest number offset n digest", or "k m one ..". The bytes are one more than the
 // longest text has, and the cells that are read into are those of the largest table, each with a number
 // that is no field of any. (A text is never longer than the bytes lent for it: it is read whole.)
@@ -78,9 +68,9 @@ fn table(rt: &impl Print, k: u32, m: u32, kind: Kind) -> io::Result<()> {
     let mut cells = [43981; 32768];
     let text = &bytes[..written.place.min(163841)];
     let read = Numbers::from(read_memory(shape, text, &mut cells));
-    print_name(rt, shape)?;
     println!(rt;
-        " {written} {} {read} {}",
+        "{} {written} {} {read} {}",
+        Named(shape),
         digest_of(&bytes),
         digest_of(&cells)
     )

@@ -1,7 +1,7 @@
 // The text of a round: how it is made, damaged, read and written over.
 ghost use Rattle.std.specs.Prelude.{◌<◌, ◌≤◌};
 
-use crate::drawing::Draws;
+use programs::Draws;
 use recip::{Fault, Offset, ReadError, Shape, read_memory, write_memory};
 
 // Bytes that mean something to a reader, and some that have no place in a text.
