@@ -15,7 +15,7 @@ use recip::{
 };
 use std::io;
 
-// What is drawn for a call.
+// What is drawn for a call; op is its number in `second/README.md`, which is folded in.
 #[derive(Clone, Copy)]
 struct Inputs {
     op: u64,
