@@ -12,13 +12,12 @@
 #![tactic(auto)]
 
 ghost use Rattle.std.specs.Prelude.{◌≡◌, length};
-ghost use Rattle.listing_line.specs.Line.{asks, line_read};
 ghost use Rattle.memory_text.specs.Read.{read_report};
 ghost use Rattle.intake.specs.Accepted.{cells_of, Accepted};
 
-use listing_line::read_line;
+use listing_line::{Asked, read_line};
 use programs::read_full;
-use recip::{Fault, NotPassed, ReadError, Refusal, Shape, check_table, read_memory};
+use recip::{Fault, NotPassed, ReadError, Refusal, check_table, read_memory};
 use std::io;
 
 const LONGEST_TEXT: usize = 1048576;
@@ -40,24 +39,23 @@ fn refused_at(rt: &impl Print, number: u32, place: usize) -> io::Result<()> {
     println!(rt; "refused {number} {place}")
 }
 
-// Below, `line` is lent for the contracts alone: the table is judged as one of the shape that the line
-// names.
+// Below, the line comes along for the contracts alone: the table is judged as one of the shape that the
+// line names.
 
 // The one place that says so: of a text that was read, and whose every entry is best.
-fn passes(rt: &impl Print, line: &[u8], shape: Shape, memory: &[u8]) -> io::Result<()>
-    requires { (line_read line.now ≡ asks shape) × (Accepted shape memory.now) }
+fn passes(rt: &impl Print, asked: Asked, memory: &[u8]) -> io::Result<()>
+    requires { Accepted asked.shape memory.now }
 {
     println!(rt; "passes")
 }
 
 // What was read is never refused here, yet what the call answers is written. The text is lent for the
 // contract alone.
-fn check(rt: &impl Print, line: &[u8], shape: Shape, memory: &[u8], table: &[u16]) -> io::Result<()>
-    requires line_value { line_read line.now ≡ asks shape }
-    requires memory_value { ((read_report shape memory.now 32768).number ≡ 0) × (table.now ≡ cells_of shape memory.now) }
+fn check(rt: &impl Print, asked: Asked, memory: &[u8], table: &[u16]) -> io::Result<()>
+    requires { ((read_report asked.shape memory.now 32768).number ≡ 0) × (table.now ≡ cells_of asked.shape memory.now) }
 {
-    match check_table(shape, table) {
-        Ok(()) => passes(rt, line, shape, memory),
+    match check_table(asked.shape, table) {
+        Ok(()) => passes(rt, asked, memory),
         Err(NotPassed::NotBest { n, worst, least }) => {
             println!(rt; "not best {} {} {}", n.0, worst.0, least.0)
         }
@@ -66,13 +64,11 @@ fn check(rt: &impl Print, line: &[u8], shape: Shape, memory: &[u8], table: &[u16
     }
 }
 
-fn take(rt: &impl Print, line: &[u8], shape: Shape, memory: &[u8]) -> io::Result<()>
-    requires { line_read line.now ≡ asks shape }
-{
+fn take(rt: &impl Print, asked: Asked, memory: &[u8]) -> io::Result<()> {
     let mut cells = [0u16; 32768];
     let table: &mut [u16] = &mut cells;
-    match read_memory(shape, memory, table) {
-        Ok(()) => check(rt, line, shape, memory, table),
+    match read_memory(asked.shape, memory, table) {
+        Ok(()) => check(rt, asked, memory, table),
         Err(ReadError::BadToken(at)) => refused_at(rt, 8, at.0),
         Err(ReadError::PastTable(at)) => refused_at(rt, 9, at.0),
         Err(ReadError::TooWide(at)) => refused_at(rt, 5, at.0),
@@ -82,13 +78,11 @@ fn take(rt: &impl Print, line: &[u8], shape: Shape, memory: &[u8]) -> io::Result
     }
 }
 
-fn take_if_short(rt: &impl Print, line: &[u8], shape: Shape, memory: &[u8]) -> io::Result<()>
-    requires { line_read line.now ≡ asks shape }
-{
+fn take_if_short(rt: &impl Print, asked: Asked, memory: &[u8]) -> io::Result<()> {
     if LONGEST_TEXT < memory.len() {
         println!(rt; "too long")
     } else {
-        take(rt, line, shape, memory)
+        take(rt, asked, memory)
     }
 }
 
@@ -105,7 +99,7 @@ fn first_line(input: &[u8]) -> Option<(&[u8], &[u8])> {
 fn answer(rt: &impl Print, input: &[u8]) -> io::Result<()> {
     let (line, memory) = first_line(input).unwrap_or((&[], input));
     match read_line(line) {
-        Ok(shape) => take_if_short(rt, line, shape, memory),
+        Ok(shape) => take_if_short(rt, Asked { line, shape }, memory),
         Err(r) => refused(rt, r),
     }
 }

@@ -3,5 +3,5 @@ use Rattle.std.proofs.Common.{sym, ap}
 use Rattle.memory_text.specs.Read.{Report}
 use Rattle.intake.proofs.take.Goals as goal
 
-pub check-requires-clause-memory_value : goal.check-requires-clause-memory_value
-check-requires-clause-memory_value g c = (sym (ap (λ (r : Report). r.number) c.in-Ok.ensures.answer), c.in-Ok.ensures.cells)
+pub check-requires : goal.check-requires
+check-requires g c = (sym (ap (λ (r : Report). r.number) c.in-Ok.ensures.answer), c.in-Ok.ensures.cells)

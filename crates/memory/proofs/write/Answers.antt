@@ -16,4 +16,4 @@ text s cells bytes after is =
 
 pub send-requires : goal.send-requires
 send-requires g c =
-    (c.requires.0, text c.args.shape c.args.table.now _ c.in-Ok.ensures.bytes c.in-Ok.ensures.answer ∙ c.requires.1)
+    text c.args.asked.shape c.args.table.now _ c.in-Ok.ensures.bytes c.in-Ok.ensures.answer ∙ c.requires

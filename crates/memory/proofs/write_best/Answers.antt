@@ -9,6 +9,6 @@ use Rattle.memory.proofs.write_best.Goals as goal
 
 pub write-requires : goal.write-requires
 write-requires g c =
-    let s = c.args.shape in
+    let s = c.args.asked.shape in
     let good = table_good (done_so (table_tests s _) (omega arith) c.in-Ok.ensures.answer) in
-    (c.requires, ap (memory_text s) c.in-Ok.ensures.cells ∙ built_text s _ good)
+    ap (memory_text s) c.in-Ok.ensures.cells ∙ built_text s _ good
