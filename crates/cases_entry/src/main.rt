@@ -38,24 +38,18 @@ const OUTPUTS_WITH_ONE: [(u32, [u16; 4]); 2] = [
 fn edge(rt: &impl Print, shape: Shape, n: u32, f: u16) -> io::Result<()> {
     let named = Named(shape);
     let written = match entry_error(shape, Interval(n), f) {
-        Ok(
-            Errors {
-                low,
-                high,
-                worst,
-                side,
-            },
-        ) => {
-            let (low, high, worst) = (low.0, high.0, worst.0);
-            println!(rt;
-                "{named} {n} {f}: 0 0 {low} {high} {worst} {}",
-                side.number()
-            )
-        }
-        Err(fault) => {
-            let (number, n_named) = (fault.number(), fault.n().0);
-            println!(rt; "{named} {n} {f}: {number} {n_named} 0 0 0 0")
-        }
+        Ok(e) => println!(rt;
+            "{named} {n} {f}: 0 0 {} {} {} {}",
+            e.low.0,
+            e.high.0,
+            e.worst.0,
+            e.side.number()
+        ),
+        Err(fault) => println!(rt;
+            "{named} {n} {f}: {} {} 0 0 0 0",
+            fault.number(),
+            fault.n().0
+        ),
     };
     let Named(_) = named;
     written
@@ -97,6 +91,7 @@ impl fmt::Display for Best {
     }
 }
 
+// The builder's entry for an interval, with its errors.
 fn best_of(shape: Shape, n: Interval) -> Result<Best, Fault> {
     let place = placed(shape, n)?;
     let f = best_field(place);
