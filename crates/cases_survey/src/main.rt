@@ -198,8 +198,8 @@ fn refused(rt: &impl Print) -> io::Result<()> {
     all_on(rt, shape, 5, 31, &[])
 }
 
-// A tally takes a field.
-fn take(rt: &impl Print, tally: Tally, f: u16) -> io::Result<Tally> {
+// A tally takes a field, and is handed on, taken or not.
+fn handed_on(rt: &impl Print, tally: Tally, f: u16) -> io::Result<Tally> {
     let answer = tally.take(f);
     println!(rt; "tally {}", Taken(answer))?;
     Ok(handed_back(answer))
@@ -237,7 +237,7 @@ fn tallies(rt: &impl Print) -> io::Result<()> {
         (forged(plain(5, 5), 8, 43, Side::Left), 19),
     ];
     for (tally, f) in cases {
-        take(rt, tally, f)?;
+        handed_on(rt, tally, f)?;
     }
     Ok(())
 }
@@ -246,7 +246,7 @@ fn tallies(rt: &impl Print) -> io::Result<()> {
 fn tally_with_one(rt: &impl Print) -> io::Result<()> {
     let mut tally = Tally::start(Shape::of(5, 5, Kind::WithOne), Interval(0));
     for f in [32, 32, 33] {
-        tally = take(rt, tally, f)?;
+        tally = handed_on(rt, tally, f)?;
     }
     Ok(())
 }
