@@ -3,162 +3,124 @@
 // last 32 lines are transcribed from the source.
 #![tactic(auto)]
 
-ghost use Rattle.std.specs.Prelude.{◌<◌, ◌≤◌};
+ghost use Rattle.std.specs.Prelude.{◌<◌};
 
-use entry::{ErrorAnswer, best_field, entry_error, entry_of};
-use programs::{column, long_column, number, shape_named, text};
-use std::io;
-use units::{Error, Interval, Kind, Shape};
+use entry::{Errors, best_field, entry_error, entry_of, placed};
+use programs::Named;
+use std::{fmt, io};
+use units::{Entry, Fault, GoodShape, Interval, Kind, Shape, power};
 
-// k and m: below the widths, their ends, above them.
-const WIDTHS: [u32; 4] = [0, 1, 15, 16];
-
-// For each of those k the first interval, the last one, the one past it, and the largest number.
-const PLACES: [u32; 16] = [
-    0, 0, 1, 4294967295, 0, 1, 2, 4294967295, 0, 32767, 32768, 4294967295, 0, 65535, 65536,
-    4294967295,
+// k: below the widths, their ends, above them; and for each the first interval, the last one, the one
+// past it, and the largest number.
+const INPUTS: [(u32, [u32; 4]); 4] = [
+    (0, [0, 0, 1, 4294967295]),
+    (1, [0, 1, 2, 4294967295]),
+    (15, [0, 32767, 32768, 4294967295]),
+    (16, [0, 65535, 65536, 4294967295]),
 ];
 
-// For each of those m the first field, the last one, the one past it, and the largest cell.
-const FIELDS: [u16; 16] = [
-    0, 0, 1, 65535, 0, 1, 2, 65535, 0, 32767, 32768, 65535, 0, 65534, 65535, 65535,
+// The same of m, and for each the first field, the last one, the one past it, and the largest cell.
+const OUTPUTS: [(u32, [u16; 4]); 4] = [
+    (0, [0, 0, 1, 65535]),
+    (1, [0, 1, 2, 65535]),
+    (15, [0, 32767, 32768, 65535]),
+    (16, [0, 65534, 65535, 65535]),
 ];
 
 // The same in tables with one, for m = 1 and 15.
-const FIELDS_WITH_ONE: [u16; 8] = [0, 2, 3, 65535, 0, 32768, 32769, 65535];
+const OUTPUTS_WITH_ONE: [(u32, [u16; 4]); 2] = [
+    (1, [0, 2, 3, 65535]),
+    (15, [0, 32768, 32769, 65535]),
+];
 
-fn signed(rt: &impl Print, e: Error) -> io::Result<()> {
-    if e.is_negative() {
-        text(rt, b"-")?;
-    }
-    number(rt, e.size().0)
+// "k m n f: number n low high worst side", or "k m one n f: ..", unused ones zero. (A `Named` is taken
+// apart at its end, since it may not be let go.)
+fn edge(rt: &impl Print, shape: Shape, n: u32, f: u16) -> io::Result<()> {
+    let named = Named(shape);
+    let written = match entry_error(shape, Interval(n), f) {
+        Ok(e) => println!(rt;
+            "{named} {n} {f}: 0 0 {} {} {} {}",
+            e.low.0,
+            e.high.0,
+            e.worst.0,
+            e.side.number()
+        ),
+        Err(fault) => println!(rt;
+            "{named} {n} {f}: {} {} 0 0 0 0",
+            fault.number(),
+            fault.n().0
+        ),
+    };
+    let Named(_) = named;
+    written
 }
 
-// The number, n, low, high, worst and side of an answer, unused ones zero.
-fn answer(rt: &impl Print, a: ErrorAnswer) -> io::Result<()> {
-    match a {
-        ErrorAnswer::Done(e) => {
-            text(rt, b"0 0 ")?;
-            signed(rt, e.low)?;
-            text(rt, b" ")?;
-            signed(rt, e.high)?;
-            long_column(rt, e.worst.0)?;
-            let s = e.side;
-            column(rt, s.number())?;
-        }
-        ErrorAnswer::TooWide(n) => {
-            text(rt, b"5")?;
-            column(rt, n.0)?;
-            text(rt, b" 0 0 0 0")?;
-        }
-        ErrorAnswer::Refused(r) => {
-            number(rt, r.number() as u64)?;
-            text(rt, b" 0 0 0 0 0")?;
+// All intervals and fields of all pairs of some widths.
+fn edges(
+    rt: &impl Print,
+    kind: Kind,
+    inputs: &[(u32, [u32; 4])],
+    outputs: &[(u32, [u16; 4])],
+) -> io::Result<()> {
+    for &(k, intervals) in inputs {
+        for &(m, fields) in outputs {
+            let shape = Shape::of(k, m, kind);
+            for n in intervals {
+                for f in fields {
+                    edge(rt, shape, n, f)?;
+                }
+            }
         }
     }
     Ok(())
 }
 
-fn edge(rt: &impl Print, shape: Shape, n: u32, f: u16) -> io::Result<()> {
-    shape_named(rt, shape)?;
-    column(rt, n)?;
-    column(rt, f as u32)?;
-    text(rt, b": ")?;
-    answer(rt, entry_error(shape, Interval(n), f))?;
-    text(rt, b"\n")
+// An interval's best entry, in parts of a whole, with its relative error interval.
+#[derive(Clone, Copy)]
+struct Best {
+    j: Entry,
+    whole: u64,
+    errors: Errors,
 }
 
-// The case c of 4 times 4 widths, 4 places and 4 fields.
-fn edge_case(rt: &impl Print, c: usize) -> io::Result<()>
-    requires { c < 256 }
-{
-    let a = c / 64;
-    let b = c / 16 % 4;
-    edge(
-        rt,
-        Shape::of(WIDTHS[a], WIDTHS[b], Kind::Plain),
-        PLACES[4 * a + c / 4 % 4],
-        FIELDS[4 * b + c % 4],
-    )
-}
-
-// The same in tables with one, of the widths 1 and 15.
-fn one_case(rt: &impl Print, c: usize) -> io::Result<()>
-    requires { c < 64 }
-{
-    let a = 1 + c / 32;
-    let b = c / 16 % 2;
-    edge(
-        rt,
-        Shape::of(WIDTHS[a], WIDTHS[1 + b], Kind::WithOne),
-        PLACES[4 * a + c / 4 % 4],
-        FIELDS_WITH_ONE[4 * b + c % 4],
-    )
-}
-
-// "63/64 (-31,32]": a row's entry and its relative error interval, as Table 1 prints them.
-fn entry(rt: &impl Print, m: u32, n: u32) -> io::Result<()>
-    requires { (1 ≤ m) × ((m ≤ 6) × (n < 32)) }
-{
-    let shape = Shape {
-        k: 5,
-        m: m,
-        kind: Kind::Plain,
-    };
-    let f = best_field(shape, Interval(n));
-    number(rt, entry_of(shape, f).0 as u64)?;
-    text(rt, b"/")?;
-    number(rt, units::power(m + 1))?;
-    text(rt, b" (")?;
-    match entry_error(shape, Interval(n), f) {
-        ErrorAnswer::Done(e) => {
-            signed(rt, e.low)?;
-            text(rt, b",")?;
-            signed(rt, e.high)?;
-        }
-        _ => text(rt, b"?")?,
+// "63/64 (-31,32]", as Table 1 prints it.
+impl fmt::Display for Best {
+    fn fmt<W: fmt::Write>(&self, f: &mut fmt::Formatter<W>) -> fmt::Result {
+        let Best { j, whole, errors } = self;
+        write!(f, "{}/{whole} ({},{}]", j.0, errors.low.0, errors.high.0)
     }
-    text(rt, b"]")
+}
+
+// The builder's entry for an interval, with its errors.
+fn best_of(shape: Shape, n: Interval) -> Result<Best, Fault> {
+    let place = placed(shape, n)?;
+    let f = best_field(place);
+    Ok(Best {
+        j: entry_of(GoodShape { shape: place.shape }, f),
+        whole: power(place.shape.m + 1),
+        errors: entry_error(shape, n, f)?,
+    })
 }
 
 // A line of Table 1: the interval, and its entry of 5 and of 6 bits.
 fn row(rt: &impl Print, n: u32) -> io::Result<()>
     requires { n < 32 }
 {
-    text(rt, b"[")?;
-    number(rt, 32 + n as u64)?;
-    text(rt, b"/32,")?;
-    number(rt, 33 + n as u64)?;
-    text(rt, b"/32) ")?;
-    entry(rt, 5, n)?;
-    text(rt, b" ")?;
-    entry(rt, 6, n)?;
-    text(rt, b"\n")
-}
-
-fn edges(rt: &impl Print) -> io::Result<()> {
-    for c in 0..256 {
-        edge_case(rt, c)?;
+    print!(rt; "[{}/32,{}/32)", 32 + n, 33 + n)?;
+    for m in [5, 6] {
+        match best_of(Shape::of(5, m, Kind::Plain), Interval(n)) {
+            Ok(best) => print!(rt; " {best}")?,
+            Err(fault) => print!(rt; " refused, number {}", fault.number())?,
+        }
     }
-    Ok(())
-}
-
-fn edges_with_one(rt: &impl Print) -> io::Result<()> {
-    for c in 0..64 {
-        one_case(rt, c)?;
-    }
-    Ok(())
-}
-
-fn rows(rt: &impl Print) -> io::Result<()> {
-    for n in 0..32 {
-        row(rt, n)?;
-    }
-    Ok(())
+    println!(rt;)
 }
 
 fn main(rt: HostRuntime) -> io::Result<()> {
-    edges(&rt)?;
-    edges_with_one(&rt)?;
-    rows(&rt)
+    edges(&rt, Kind::Plain, &INPUTS, &OUTPUTS)?;
+    edges(&rt, Kind::WithOne, &INPUTS[1..3], &OUTPUTS_WITH_ONE)?;
+    for n in 0..32 {
+        row(&rt, n)?;
+    }
+    Ok(())
 }

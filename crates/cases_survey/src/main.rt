@@ -5,159 +5,162 @@
 
 ghost use Rattle.std.specs.Prelude.{◌<◌, ◌≤◌};
 
-use programs::{column, labelled, long_column, shape_named, text, zeroed};
-use std::io;
-use survey::{Finding, SurveyAnswer, Tally, TallyAnswer};
+use programs::Named;
+use std::{fmt, io};
+use survey::{Finding, NotTaken, Tally};
 use table::build;
-use units::{Interval, Kind, Outcome, Shape, Side, Worst};
-use verdict::CheckAnswer;
+use units::{Fault, Interval, Kind, Shape, Side, Worst};
+use verdict::NotPassed;
 
-// The rows of Table 6 with m up to 15: k, and m = k + g.
-const TABLE_6: [u32; 14] = [5, 5, 5, 6, 5, 7, 10, 10, 10, 11, 10, 12, 15, 15];
+// A shape as `Named` writes it, and as a value that may be let go.
+#[derive(Clone, Copy)]
+struct Widths(Shape);
 
-fn finding(rt: &impl Print, f: Finding) -> io::Result<()> {
-    column(rt, f.n.0)?;
-    long_column(rt, f.worst.0)?;
-    let s = f.side;
-    column(rt, s.number())
+impl fmt::Display for Widths {
+    fn fmt<W: fmt::Write>(&self, f: &mut fmt::Formatter<W>) -> fmt::Result {
+        let named = Named(self.0);
+        let written = write!(f, "{named}");
+        let Named(_) = named;
+        written
+    }
+}
+
+// "n worst side"
+#[derive(Clone, Copy)]
+struct Found(Finding);
+
+impl fmt::Display for Found {
+    fn fmt<W: fmt::Write>(&self, f: &mut fmt::Formatter<W>) -> fmt::Result {
+        let found = self.0;
+        write!(f, "{} {} {}", found.n.0, found.worst.0, found.side.number())
+    }
 }
 
 // The number, n, worst and side of a survey, unused ones zero.
-fn surveyed(rt: &impl Print, a: SurveyAnswer) -> io::Result<()> {
-    match a {
-        SurveyAnswer::Surveyed(f) => {
-            column(rt, 0)?;
-            finding(rt, f)?;
-        }
-        SurveyAnswer::TooWide(n) => {
-            column(rt, 5)?;
-            column(rt, n.0)?;
-            text(rt, b" 0 0")?;
-        }
-        SurveyAnswer::Refused(r) => {
-            column(rt, r.number())?;
-            text(rt, b" 0 0 0")?;
+#[derive(Clone, Copy)]
+struct Surveyed(Result<Finding, Fault>);
+
+impl fmt::Display for Surveyed {
+    fn fmt<W: fmt::Write>(&self, f: &mut fmt::Formatter<W>) -> fmt::Result {
+        match self.0 {
+            Ok(found) => write!(f, "0 {}", Found(found)),
+            Err(fault) => write!(f, "{} {} 0 0", fault.number(), fault.n().0),
         }
     }
-    Ok(())
 }
 
 // The number, yes or no, n, worst and least of a check, unused ones zero.
-fn checked(rt: &impl Print, a: CheckAnswer) -> io::Result<()> {
-    match a {
-        CheckAnswer::Yes => text(rt, b" 0 yes 0 0 0")?,
-        CheckAnswer::NotBest { n, worst, least } => {
-            text(rt, b" 0 no")?;
-            column(rt, n.0)?;
-            long_column(rt, worst.0)?;
-            long_column(rt, least.0)?;
-        }
-        CheckAnswer::TooWide(n) => {
-            text(rt, b" 5 no")?;
-            column(rt, n.0)?;
-            text(rt, b" 0 0")?;
-        }
-        CheckAnswer::Refused(r) => {
-            column(rt, r.number())?;
-            text(rt, b" no 0 0 0")?;
-        }
-    }
-    Ok(())
-}
+#[derive(Clone, Copy)]
+struct Checked(Result<(), NotPassed>);
 
-// The worst finding of the best table of a shape; a fresh one where the survey is refused.
-fn worst_of(shape: Shape) -> Finding {
-    let mut cells = zeroed();
-    let built: Outcome = build(shape, &mut cells);
-    match survey::whole(shape, &cells) {
-        SurveyAnswer::Surveyed(f) => f,
-        _ => Finding {
-            worst: Worst(0),
-            n: Interval(0),
-            side: Side::Left,
-        },
+impl fmt::Display for Checked {
+    fn fmt<W: fmt::Write>(&self, f: &mut fmt::Formatter<W>) -> fmt::Result {
+        match self.0 {
+            Ok(()) => write!(f, "0 yes 0 0 0"),
+            Err(NotPassed::NotBest { n, worst, least }) => {
+                write!(f, "0 no {} {} {}", n.0, worst.0, least.0)
+            }
+            Err(NotPassed::Faulty(fault)) => {
+                write!(f, "{} no {} 0 0", fault.number(), fault.n().0)
+            }
+        }
     }
 }
 
-// "k=5 g=0 43/2^11"
-fn table_6(rt: &impl Print, row: usize) -> io::Result<()>
-    requires { row < 7 }
+// The number and n of a tally's answer, unused ones zero, and the tally that came back: its shape, next n
+// and finding.
+#[derive(Clone, Copy)]
+struct Taken(Result<Tally, NotTaken>);
+
+impl fmt::Display for Taken {
+    fn fmt<W: fmt::Write>(&self, f: &mut fmt::Formatter<W>) -> fmt::Result {
+        match self.0 {
+            Ok(_) => write!(f, "0 0")?,
+            Err(refused) => write!(f, "{} {}", refused.fault.number(), refused.fault.n().0)?,
+        }
+        let tally = handed_back(self.0);
+        write!(
+            f,
+            " {} {} {}",
+            Widths(tally.shape),
+            tally.next.0,
+            Found(tally.finding)
+        )
+    }
+}
+
+// The tally that came back, taken or not.
+fn handed_back(answer: Result<Tally, NotTaken>) -> Tally {
+    match answer {
+        Ok(tally) => tally,
+        Err(refused) => refused.tally,
+    }
+}
+
+fn plain(k: u32, m: u32) -> Shape {
+    Shape::of(k, m, Kind::Plain)
+}
+
+// The finding of the best table of a shape.
+fn worst_of(shape: Shape) -> Result<Finding, Fault> {
+    let mut cells = [0u16; 32768];
+    build(shape, &mut cells)?;
+    survey::whole(shape, &cells)
+}
+
+// "k=5 g=0 43/2^11": a row of Table 6, of widths k and k + g.
+fn table_6(rt: &impl Print, k: u32, g: u32) -> io::Result<()>
+    requires { (k ≤ 15) × (g < 3) }
 {
-    let k = TABLE_6[2 * row];
-    let m = TABLE_6[2 * row + 1];
-    line_of_table_6(rt, k, m)
+    let m = k + g;
+    print!(rt; "k={k} g={g} ")?;
+    match worst_of(plain(k, m)) {
+        Ok(found) => println!(rt; "{}/2^{}", found.worst.0, k + m + 1),
+        Err(fault) => println!(rt; "refused, number {}", fault.number()),
+    }
 }
 
-fn line_of_table_6(rt: &impl Print, k: u32, m: u32) -> io::Result<()> {
-    if m < k {
-        return Ok(());
+// The rows of Table 6 with k + g up to 15.
+fn rows_of_table_6(rt: &impl Print) -> io::Result<()> {
+    for k in [5, 10] {
+        for g in 0..3 {
+            table_6(rt, k, g)?;
+        }
     }
-    if 15 < m {
-        return Ok(());
-    }
-    labelled(rt, b"k=", k as u64)?;
-    labelled(rt, b" g=", (m - k) as u64)?;
-    long_column(rt, worst_of(Shape::of(k, m, Kind::Plain)).worst.0)?;
-    labelled(rt, b"/2^", (k + m + 1) as u64)?;
-    text(rt, b"\n")
+    table_6(rt, 15, 0)
 }
 
-// The digit of n at place at.
-fn digit(rt: &impl Print, n: u32, at: u32) -> io::Result<()> {
-    if 31 < at {
-        return Ok(());
+// " 1.01000": the worst input of a shape, chopped to the k binary digits after the point.
+fn worst_input(rt: &impl Print, shape: Shape) -> io::Result<()> {
+    match worst_of(shape) {
+        Ok(found) => print!(rt; " 1.{:0k$b}", found.n.0, k = shape.k as usize),
+        Err(fault) => print!(rt; " refused, number {}", fault.number()),
     }
-    if (n >> at) % 2 == 0 {
-        text(rt, b"0")?;
-    } else {
-        text(rt, b"1")?;
-    }
-    Ok(())
-}
-
-// " 1.01000": the k binary digits of n after the point.
-fn chopped(rt: &impl Print, k: u32, n: u32) -> io::Result<()> {
-    text(rt, b" 1.")?;
-    let mut left = k;
-    while 0 < left {
-        left -= 1;
-        digit(rt, n, left)?;
-    }
-    Ok(())
 }
 
 // "k=5 1.01000 1.00011": the worst inputs of (k, k) and, where 15 bits allow it, of (k, k + 1).
 fn table_7(rt: &impl Print, k: u32) -> io::Result<()>
     requires { k ≤ 15 }
 {
-    labelled(rt, b"k=", k as u64)?;
-    chopped(rt, k, worst_of(Shape::of(k, k, Kind::Plain)).n.0)?;
+    print!(rt; "k={k}")?;
+    worst_input(rt, plain(k, k))?;
     if k < 15 {
-        chopped(rt, k, worst_of(Shape::of(k, k + 1, Kind::Plain)).n.0)?;
+        worst_input(rt, plain(k, k + 1))?;
     }
-    text(rt, b"\n")
+    println!(rt;)
 }
 
 // The answers of all surveys and of the check on the same cells.
-fn all_on(rt: &impl Print, k: u32, m: u32, h: u32, b: u32, cells: &[u16]) -> io::Result<()> {
-    all_on_shape(rt, Shape::of(k, m, Kind::Plain), h, b, cells)
-}
-
-fn all_on_shape(rt: &impl Print, shape: Shape, h: u32, b: u32, cells: &[u16]) -> io::Result<()> {
-    text(rt, b"on ")?;
-    shape_named(rt, shape)?;
-    column(rt, h)?;
-    column(rt, b)?;
-    long_column(rt, cells.len() as u64)?;
-    text(rt, b":")?;
-    surveyed(rt, survey::whole(shape, cells))?;
-    text(rt, b",")?;
-    surveyed(rt, survey::bank(shape, h, b, cells))?;
-    text(rt, b",")?;
-    surveyed(rt, survey::bank_of(shape, h, b, cells))?;
-    text(rt, b",")?;
-    checked(rt, verdict::check(shape, cells))?;
-    text(rt, b"\n")
+fn all_on(rt: &impl Print, shape: Shape, h: u32, b: u32, cells: &[u16]) -> io::Result<()> {
+    println!(rt;
+        "on {} {h} {b} {}: {}, {}, {}, {}",
+        Widths(shape),
+        cells.len(),
+        Surveyed(survey::whole(shape, cells)),
+        Surveyed(survey::bank(shape, h, b, cells)),
+        Surveyed(survey::bank_of(shape, h, b, cells)),
+        Checked(verdict::check(shape, cells))
+    )
 }
 
 // A built table of (5,5) with a bad entry, and just after it (or at 0, after the last) an over-wide
@@ -165,183 +168,125 @@ fn all_on_shape(rt: &impl Print, shape: Shape, h: u32, b: u32, cells: &[u16]) ->
 fn damaged(rt: &impl Print, at: usize) -> io::Result<()>
     requires { at < 32 }
 {
+    let shape = plain(5, 5);
     let mut cells = [0u16; 32];
-    let built: Outcome = build(Shape::of(5, 5, Kind::Plain), &mut cells);
-    cells[at] = 32;
+    let _ = build(shape, &mut cells);
     cells[(at + 31) % 32] = 0;
-    all_on(rt, 5, 5, 1, 0, &cells)?;
-    all_on(rt, 5, 5, 1, 1, &cells)?;
-    cells[at] = 31;
-    all_on(rt, 5, 5, 1, 0, &cells)?;
-    all_on(rt, 5, 5, 1, 1, &cells)
+    for f in [32, 31] {
+        cells[at] = f;
+        all_on(rt, shape, 1, 0, &cells)?;
+        all_on(rt, shape, 1, 1, &cells)?;
+    }
+    Ok(())
 }
 
-// Widths, banks and cells that are refused, and their neighbours that are not.
+// Widths, banks and cells that are refused, and their neighbours that are not. (The parts are `[0..31]`:
+// of `[..31]` the check finds no bound here.)
 fn refused(rt: &impl Print) -> io::Result<()> {
     let mut cells = [43981u16; 33];
-    all_on(rt, 0, 5, 0, 0, &cells)?;
-    all_on(rt, 5, 0, 0, 0, &cells)?;
-    all_on(rt, 16, 16, 0, 0, &cells)?;
-    all_on(rt, 6, 5, 3, 7, &cells)?;
-    let built: Outcome = build(Shape::of(5, 15, Kind::Plain), &mut cells);
-    all_on(rt, 5, 15, 0, 0, &cells)?;
-    all_on(rt, 5, 15, 2, 3, &cells)?;
-    all_on(rt, 5, 15, 2, 4, &cells)?;
-    all_on(rt, 5, 15, 6, 0, &cells)?;
-    all_on(rt, 5, 15, 5, 31, &cells)?;
-    all_on(rt, 5, 15, 5, 31, &cells[0..31])?;
-    all_on(rt, 5, 15, 5, 30, &cells[0..31])?;
-    all_on(rt, 5, 15, 5, 31, &cells[0..0])
-}
-
-fn state(rt: &impl Print, t: Tally) -> io::Result<()> {
-    text(rt, b" ")?;
-    shape_named(rt, t.shape)?;
-    column(rt, t.next.0)?;
-    let f = t.finding;
-    finding(rt, f)
-}
-
-// The number and n of a tally's answer, and the tally that came back.
-fn taken(rt: &impl Print, a: TallyAnswer) -> io::Result<()> {
-    match a {
-        TallyAnswer::Taken(t) => {
-            text(rt, b" 0 0")?;
-            state(rt, t)?;
-        }
-        TallyAnswer::TooWide(n, t) => {
-            column(rt, 5)?;
-            column(rt, n.0)?;
-            state(rt, t)?;
-        }
-        TallyAnswer::Refused(r, t) => {
-            column(rt, r.number())?;
-            text(rt, b" 0")?;
-            state(rt, t)?;
-        }
+    all_on(rt, plain(0, 5), 0, 0, &cells)?;
+    all_on(rt, plain(5, 0), 0, 0, &cells)?;
+    all_on(rt, plain(16, 16), 0, 0, &cells)?;
+    all_on(rt, plain(6, 5), 3, 7, &cells)?;
+    let shape = plain(5, 15);
+    let _ = build(shape, &mut cells);
+    for (h, b) in [(0, 0), (2, 3), (2, 4), (6, 0), (5, 31)] {
+        all_on(rt, shape, h, b, &cells)?;
     }
-    text(rt, b"\n")
+    all_on(rt, shape, 5, 31, &cells[0..31])?;
+    all_on(rt, shape, 5, 30, &cells[0..31])?;
+    all_on(rt, shape, 5, 31, &[])
+}
+
+// A tally takes a field, and is handed on, taken or not.
+fn handed_on(rt: &impl Print, tally: Tally, f: u16) -> io::Result<Tally> {
+    let answer = tally.take(f);
+    println!(rt; "tally {}", Taken(answer))?;
+    Ok(handed_back(answer))
 }
 
 // Tallies with a finding that no survey has, and any widths and next n. Their side shows whether it is
 // kept: it is not the entry's where a field is taken, and not 0 where the call is refused.
-fn forged(
-    rt: &impl Print,
-    k: u32,
-    m: u32,
-    next: u32,
-    worst: u64,
-    side: Side,
-    f: u16,
-) -> io::Result<()> {
-    let tally = Tally {
-        shape: Shape::of(k, m, Kind::Plain),
+fn forged(shape: Shape, next: u32, worst: u64, side: Side) -> Tally {
+    Tally {
+        shape,
         next: Interval(next),
         finding: Finding {
             worst: Worst(worst),
             n: Interval(4294967295),
-            side: side,
+            side,
         },
-    };
-    text(rt, b"tally")?;
-    taken(rt, tally.take(f))
-}
-
-fn tallies(rt: &impl Print) -> io::Result<()> {
-    text(rt, b"tally")?;
-    taken(
-        rt,
-        Tally::start(Shape::of(5, 5, Kind::Plain), Interval(8)).take(19),
-    )?;
-    text(rt, b"tally")?;
-    taken(
-        rt,
-        Tally::start(
-            Shape::of(4294967295, 4294967295, Kind::Plain),
-            Interval(4294967295),
-        )
-        .take(65535),
-    )?;
-    forged(rt, 15, 15, 32767, 0, Side::Left, 32767)?;
-    forged(rt, 15, 15, 32767, 18446744073709551615, Side::Left, 32767)?;
-    forged(rt, 15, 15, 32767, 0, Side::Right, 32768)?;
-    forged(rt, 15, 15, 32768, 0, Side::Right, 65535)?;
-    forged(rt, 15, 16, 4294967295, 0, Side::Right, 65535)?;
-    forged(rt, 0, 16, 4294967295, 0, Side::Right, 65535)?;
-    forged(rt, 5, 5, 8, 42, Side::Left, 19)?;
-    forged(rt, 5, 5, 8, 43, Side::Left, 19)
-}
-
-fn handed_back(a: TallyAnswer) -> Tally {
-    match a {
-        TallyAnswer::Taken(t) => t,
-        TallyAnswer::TooWide(_, t) => t,
-        TallyAnswer::Refused(_, t) => t,
     }
 }
 
-fn handed_on(rt: &impl Print, tally: Tally, f: u16) -> io::Result<Tally> {
-    text(rt, b"tally")?;
-    let answer = tally.take(f);
-    taken(rt, answer)?;
-    Ok(handed_back(answer))
+fn tallies(rt: &impl Print) -> io::Result<()> {
+    let most = 4294967295;
+    let cases = [
+        (Tally::start(plain(5, 5), Interval(8)), 19),
+        (Tally::start(plain(most, most), Interval(most)), 65535),
+        (forged(plain(15, 15), 32767, 0, Side::Left), 32767),
+        (
+            forged(plain(15, 15), 32767, 18446744073709551615, Side::Left),
+            32767,
+        ),
+        (forged(plain(15, 15), 32767, 0, Side::Right), 32768),
+        (forged(plain(15, 15), 32768, 0, Side::Right), 65535),
+        (forged(plain(15, 16), most, 0, Side::Right), 65535),
+        (forged(plain(0, 16), most, 0, Side::Right), 65535),
+        (forged(plain(5, 5), 8, 42, Side::Left), 19),
+        (forged(plain(5, 5), 8, 43, Side::Left), 19),
+    ];
+    for (tally, f) in cases {
+        handed_on(rt, tally, f)?;
+    }
+    Ok(())
 }
 
 // A tally of a table with one takes 1.0 as often as it comes, and no field above it.
 fn tally_with_one(rt: &impl Print) -> io::Result<()> {
-    let shape = Shape::of(5, 5, Kind::WithOne);
-    let first = handed_on(rt, Tally::start(shape, Interval(0)), 32)?;
-    let second = handed_on(rt, first, 32)?;
-    handed_on(rt, second, 33)?;
+    let mut tally = Tally::start(Shape::of(5, 5, Kind::WithOne), Interval(0));
+    for f in [32, 32, 33] {
+        tally = handed_on(rt, tally, f)?;
+    }
     Ok(())
 }
 
 // "12 3 one 3856/65536": document 02's worst errors.
-fn worst_line(rt: &impl Print, shape: Shape) -> io::Result<()> {
-    shape_named(rt, shape)?;
-    long_column(rt, worst_of(shape).worst.0)?;
-    text(rt, b"/65536\n")
+fn worst_line(rt: &impl Print, kind: Kind) -> io::Result<()> {
+    let shape = Shape::of(12, 3, kind);
+    match worst_of(shape) {
+        Ok(found) => println!(rt; "{} {}/65536", Widths(shape), found.worst.0),
+        Err(fault) => println!(rt; "{} refused, number {}", Widths(shape), fault.number()),
+    }
 }
 
 // A built table of (4,3) with one: its first entry is 1.0, and 15/16 is as good.
 fn with_one(rt: &impl Print) -> io::Result<()> {
     let shape = Shape::of(4, 3, Kind::WithOne);
     let mut cells = [0u16; 16];
-    let built: Outcome = build(shape, &mut cells);
-    all_on_shape(rt, shape, 1, 0, &cells)?;
-    all_on(rt, 4, 3, 1, 1, &cells)?;
+    let _ = build(shape, &mut cells);
+    all_on(rt, shape, 1, 0, &cells)?;
+    all_on(rt, plain(4, 3), 1, 1, &cells)?;
     cells[0] = 7;
-    all_on_shape(rt, shape, 1, 0, &cells)?;
+    all_on(rt, shape, 1, 0, &cells)?;
     cells[15] = 8;
-    all_on_shape(rt, shape, 1, 1, &cells)?;
+    all_on(rt, shape, 1, 1, &cells)?;
     cells[15] = 9;
-    all_on_shape(rt, shape, 1, 1, &cells)
-}
-
-fn lines_of_table_6(rt: &impl Print) -> io::Result<()> {
-    for row in 0..7 {
-        table_6(rt, row)?;
-    }
-    Ok(())
-}
-
-fn lines_of_table_7(rt: &impl Print) -> io::Result<()> {
-    for k in 5..16 {
-        table_7(rt, k)?;
-    }
-    Ok(())
+    all_on(rt, shape, 1, 1, &cells)
 }
 
 fn main(rt: HostRuntime) -> io::Result<()> {
-    lines_of_table_6(&rt)?;
-    lines_of_table_7(&rt)?;
-    damaged(&rt, 0)?;
-    damaged(&rt, 15)?;
-    damaged(&rt, 31)?;
+    rows_of_table_6(&rt)?;
+    for k in 5..16 {
+        table_7(&rt, k)?;
+    }
+    for at in [0, 15, 31] {
+        damaged(&rt, at)?;
+    }
     refused(&rt)?;
     tallies(&rt)?;
-    worst_line(&rt, Shape::of(12, 3, Kind::Plain))?;
-    worst_line(&rt, Shape::of(12, 3, Kind::WithOne))?;
+    worst_line(&rt, Kind::Plain)?;
+    worst_line(&rt, Kind::WithOne)?;
     with_one(&rt)?;
     tally_with_one(&rt)
 }

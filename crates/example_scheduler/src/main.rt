@@ -6,22 +6,22 @@
 
 ghost use Rattle.std.specs.Prelude.{◌*◌, ◌≤◌, ◌≡◌, leb};
 
-use programs::{labelled, text};
 use recip::{
-    CheckAnswer, Interval, Kind, LookupAnswer, Outcome, Refusal, Shape, Side, SurveyAnswer, Worst,
-    build, check_table, look_up, survey_table,
+    Fault, Finding, Kind, NotPassed, Shape, Side, Worst, build, check_table, look_up, survey_table,
 };
-use std::io;
+use std::{fmt, io};
 
 // A family of cards: k bits of the divisor in, m bits of the reciprocal out, and no wire for 1.0. Its
 // errors are counted in parts of a whole, 2^(k+m+1).
 #[derive(Clone, Copy)]
 struct Card {
+    name: &'static str,
     shape: Shape,
     whole: u64,
 }
 
 const NARROW: Card = Card {
+    name: "narrow",
     shape: Shape {
         k: 5,
         m: 5,
@@ -31,6 +31,7 @@ const NARROW: Card = Card {
 };
 
 const WIDE: Card = Card {
+    name: "wide",
     shape: Shape {
         k: 6,
         m: 7,
@@ -40,77 +41,77 @@ const WIDE: Card = Card {
 };
 
 // A call that cannot do what was asked says why by a number of the documents, and writes no cell.
-fn refused(rt: &impl Print, r: Refusal) -> io::Result<()> {
-    labelled(rt, b"refused, number ", r.number() as u64)
-}
-
 // Number 5, a field of more than m bits, names its interval besides.
-fn too_wide(rt: &impl Print, n: Interval) -> io::Result<()> {
-    labelled(rt, b"refused, number 5, interval ", n.0 as u64)
+#[derive(Clone, Copy)]
+struct Refused(Fault);
+
+impl fmt::Display for Refused {
+    fn fmt<W: fmt::Write>(&self, f: &mut fmt::Formatter<W>) -> fmt::Result {
+        let fault = self.0;
+        write!(f, "refused, number {}", fault.number())?;
+        match fault {
+            Fault::TooWide(n) => write!(f, ", interval {}", n.0),
+            Fault::Refused(_) => Ok(()),
+        }
+    }
 }
 
 // 1. The best table of a card's widths, in a buffer that the scheduler lends.
-fn build_for(rt: &impl Print, name: &[u8], card: Card, cells: &mut [u16]) -> io::Result<()> {
-    text(rt, name)?;
+fn build_for(rt: &impl Print, card: Card, cells: &mut [u16]) -> io::Result<()> {
+    print!(rt; "{} cards: ", card.name)?;
     match build(card.shape, cells) {
-        Outcome::Done => text(rt, b"the best table is built")?,
-        Outcome::Refused(r) => refused(rt, r)?,
+        Ok(()) => println!(rt; "the best table is built"),
+        Err(refusal) => println!(rt; "{}", Refused(refusal.into())),
     }
-    text(rt, b"\n")
 }
 
 // 2. "The farm may load only tables that pass": of any other, the entry at fault or the refusal.
-fn check_image(rt: &impl Print, name: &[u8], card: Card, image: &[u16]) -> io::Result<()> {
-    text(rt, name)?;
+fn check_image(rt: &impl Print, name: &str, card: Card, image: &[u16]) -> io::Result<()> {
+    print!(rt; "{name} image: ")?;
     match check_table(card.shape, image) {
-        CheckAnswer::Yes => text(rt, b"passes")?,
-        CheckAnswer::NotBest { n, worst, least } => {
-            labelled(rt, b"interval ", n.0 as u64)?;
-            labelled(rt, b" is at fault, worst ", worst.0)?;
-            labelled(rt, b" parts, best possible ", least.0)?;
-        }
-        CheckAnswer::TooWide(n) => too_wide(rt, n)?,
-        CheckAnswer::Refused(r) => refused(rt, r)?,
+        Ok(()) => println!(rt; "passes"),
+        Err(NotPassed::NotBest { n, worst, least }) => println!(rt;
+            "interval {} is at fault, worst {} parts, best possible {}",
+            n.0, worst.0, least.0
+        ),
+        Err(NotPassed::Faulty(fault)) => println!(rt; "{}", Refused(fault)),
     }
-    text(rt, b"\n")
 }
 
 // 3. "Table images reach us from tools we didn't write": a good one for the narrow cards, and three
-// bad ones. Each `let mut` makes a copy of the good one.
+// bad ones. Each `let mut` makes a copy of the good one. (The short one is `[0..31]`: of `[..31]` the check
+// finds no bound here.)
 fn check_images(rt: &impl Print, vendor: [u16; 32]) -> io::Result<()> {
-    check_image(rt, b"vendor image: ", NARROW, &vendor)?;
+    check_image(rt, "vendor", NARROW, &vendor)?;
     let mut damaged = vendor;
     damaged[8] = 20;
-    check_image(rt, b"damaged image: ", NARROW, &damaged)?;
+    check_image(rt, "damaged", NARROW, &damaged)?;
     let mut over_wide = vendor;
     over_wide[20] = 32;
-    check_image(rt, b"over-wide image: ", NARROW, &over_wide)?;
-    check_image(rt, b"short image: ", NARROW, &vendor[0..31])
+    check_image(rt, "over-wide", NARROW, &over_wide)?;
+    check_image(rt, "short", NARROW, &vendor[0..31])
 }
 
-fn side(rt: &impl Print, s: Side) -> io::Result<()> {
-    match s {
-        Side::Left => text(rt, b", left")?,
-        Side::Right => text(rt, b", right")?,
+fn side_name(side: Side) -> &'static str {
+    match side {
+        Side::Left => "left",
+        Side::Right => "right",
     }
-    Ok(())
 }
 
 // 4. The worst error of a card's table as an exact fraction, where it is, and on which side.
-fn surveyed(rt: &impl Print, name: &[u8], card: Card, answer: SurveyAnswer) -> io::Result<()> {
-    text(rt, name)?;
+fn surveyed(rt: &impl Print, card: Card, answer: Result<Finding, Fault>) -> io::Result<()> {
+    print!(rt; "{} cards: ", card.name)?;
     match answer {
-        SurveyAnswer::Surveyed(f) => {
-            labelled(rt, b"worst ", f.worst.0)?;
-            labelled(rt, b"/", card.whole)?;
-            labelled(rt, b" at interval ", f.n.0 as u64)?;
-            let s = f.side;
-            side(rt, s)?;
-        }
-        SurveyAnswer::TooWide(n) => too_wide(rt, n)?,
-        SurveyAnswer::Refused(r) => refused(rt, r)?,
+        Ok(Finding { worst, n, side }) => println!(rt;
+            "worst {}/{} at interval {}, {}",
+            worst.0,
+            card.whole,
+            n.0,
+            side_name(side)
+        ),
+        Err(fault) => println!(rt; "{}", Refused(fault)),
     }
-    text(rt, b"\n")
 }
 
 // Whether the wide cards' worst error is no larger than the narrow cards', as exact fractions: by
@@ -122,68 +123,53 @@ fn no_larger(wide: Worst, narrow: Worst) -> bool
     wide.0 * NARROW.whole <= narrow.0 * WIDE.whole
 }
 
-// No error passes a whole, so the test never says no. After it, what `no_larger` requires is known.
+// No error passes a whole, so the first two tests never fail. After them, what `no_larger` requires is
+// known.
 fn nothing_loosens(wide: Worst, narrow: Worst) -> bool {
-    if WIDE.whole < wide.0 || NARROW.whole < narrow.0 {
-        return false;
-    }
-    no_larger(wide, narrow)
+    wide.0 <= WIDE.whole && narrow.0 <= NARROW.whole && no_larger(wide, narrow)
 }
 
 // "A retry goes to a card at least as wide, and I promise the colourist that nothing loosens." Of best
 // tables the library proves it for every interval; here it shows in the worst error of each table.
 // Where a survey was refused, nothing is promised.
-fn pick_retry(rt: &impl Print, narrow: SurveyAnswer, wide: SurveyAnswer) -> io::Result<()> {
-    let SurveyAnswer::Surveyed(first) = narrow else {
+fn pick_retry(
+    rt: &impl Print,
+    narrow: Result<Finding, Fault>,
+    wide: Result<Finding, Fault>,
+) -> io::Result<()> {
+    let (Ok(narrow), Ok(wide)) = (narrow, wide) else {
         return Ok(());
     };
-    let SurveyAnswer::Surveyed(second) = wide else {
-        return Ok(());
-    };
-    if nothing_loosens(second.worst, first.worst) {
-        text(rt, b"retry on a wide card: nothing loosens\n")?;
+    if nothing_loosens(wide.worst, narrow.worst) {
+        println!(rt; "retry on a wide card: nothing loosens")
     } else {
-        text(rt, b"retry on a narrow card\n")?;
+        println!(rt; "retry on a narrow card")
     }
-    Ok(())
 }
 
 // 5. What a card starts a division from. A divisor goes in as it comes: it is shifted up by s places,
 // n is the interval that it is then in, and j the entry.
-fn look_up_on(
-    rt: &impl Print,
-    name: &[u8],
-    card: Card,
-    divisor: u32,
-    cells: &[u16],
-) -> io::Result<()> {
-    labelled(rt, b"divisor ", divisor as u64)?;
-    text(rt, name)?;
+fn look_up_on(rt: &impl Print, card: Card, divisor: u32, cells: &[u16]) -> io::Result<()> {
+    print!(rt; "divisor {divisor} on a {} card: ", card.name)?;
     match look_up(card.shape, divisor, cells) {
-        LookupAnswer::Found { s, n, j } => {
-            labelled(rt, b"s = ", s.0 as u64)?;
-            labelled(rt, b", n = ", n.0 as u64)?;
-            labelled(rt, b", j = ", j.0 as u64)?;
-        }
-        LookupAnswer::TooWide(n) => too_wide(rt, n)?,
-        LookupAnswer::Refused(r) => refused(rt, r)?,
+        Ok(found) => println!(rt; "s = {}, n = {}, j = {}", found.s.0, found.n.0, found.j.0),
+        Err(fault) => println!(rt; "{}", Refused(fault)),
     }
-    text(rt, b"\n")
 }
 
 fn main(rt: HostRuntime) -> io::Result<()> {
     let mut narrow = [0u16; 32];
     let mut wide = [0u16; 64];
-    build_for(&rt, b"narrow cards: ", NARROW, &mut narrow)?;
-    build_for(&rt, b"wide cards: ", WIDE, &mut wide)?;
+    build_for(&rt, NARROW, &mut narrow)?;
+    build_for(&rt, WIDE, &mut wide)?;
     check_images(&rt, narrow)?;
     let of_narrow = survey_table(NARROW.shape, &narrow);
     let of_wide = survey_table(WIDE.shape, &wide);
-    surveyed(&rt, b"narrow cards: ", NARROW, of_narrow)?;
-    surveyed(&rt, b"wide cards: ", WIDE, of_wide)?;
+    surveyed(&rt, NARROW, of_narrow)?;
+    surveyed(&rt, WIDE, of_wide)?;
     pick_retry(&rt, of_narrow, of_wide)?;
-    look_up_on(&rt, b" on a narrow card: ", NARROW, 40960, &narrow)?;
-    look_up_on(&rt, b" on a wide card: ", WIDE, 40960, &wide)?;
-    look_up_on(&rt, b" on a wide card: ", WIDE, 5, &wide)?;
-    look_up_on(&rt, b" on a wide card: ", WIDE, 0, &wide)
+    look_up_on(&rt, NARROW, 40960, &narrow)?;
+    look_up_on(&rt, WIDE, 40960, &wide)?;
+    look_up_on(&rt, WIDE, 5, &wide)?;
+    look_up_on(&rt, WIDE, 0, &wide)
 }
