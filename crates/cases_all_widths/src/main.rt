@@ -30,8 +30,7 @@ fn ties(shape: Shape, fields: &[u16]) -> usize {
         .count()
 }
 
-// The table itself is its one bank at h = 0. No line of `stdout` has a refusal. (A `Named` is taken apart
-// at its end, since it may not be let go.)
+// The table itself is its one bank at h = 0. No line of `stdout` has a refusal.
 fn line(rt: &impl Print, shape: Shape) -> io::Result<()> {
     let mut cells = [0u16; 32768];
     let _ = build(shape, &mut cells);
@@ -39,7 +38,7 @@ fn line(rt: &impl Print, shape: Shape) -> io::Result<()> {
     let named = Named(shape);
     let digest = digest_of(table);
     let ties = ties(shape, table);
-    let written = match survey_table(shape, table) {
+    match survey_table(shape, table) {
         Ok(Finding { worst, n, side }) => {
             println!(rt;
                 "{named} {digest} {} {} {} {ties}",
@@ -49,9 +48,7 @@ fn line(rt: &impl Print, shape: Shape) -> io::Result<()> {
             )
         }
         Err(fault) => println!(rt; "{named} refused, number {}", fault.number()),
-    };
-    let Named(_) = named;
-    written
+    }
 }
 
 fn main(rt: HostRuntime) -> io::Result<()> {

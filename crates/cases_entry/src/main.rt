@@ -33,11 +33,10 @@ const OUTPUTS_WITH_ONE: [(u32, [u16; 4]); 2] = [
     (15, [0, 32768, 32769, 65535]),
 ];
 
-// "k m n f: number n low high worst side", or "k m one n f: ..", unused ones zero. (A `Named` is taken
-// apart at its end, since it may not be let go.)
+// "k m n f: number n low high worst side", or "k m one n f: ..", unused ones zero.
 fn edge(rt: &impl Print, shape: Shape, n: u32, f: u16) -> io::Result<()> {
     let named = Named(shape);
-    let written = match entry_error(shape, Interval(n), f) {
+    match entry_error(shape, Interval(n), f) {
         Ok(e) => println!(rt;
             "{named} {n} {f}: 0 0 {} {} {} {}",
             e.low.0,
@@ -50,9 +49,7 @@ fn edge(rt: &impl Print, shape: Shape, n: u32, f: u16) -> io::Result<()> {
             fault.number(),
             fault.n().0
         ),
-    };
-    let Named(_) = named;
-    written
+    }
 }
 
 // All intervals and fields of all pairs of some widths.

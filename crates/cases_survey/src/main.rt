@@ -12,19 +12,6 @@ use table::build;
 use units::{Fault, Interval, Kind, Shape, Side, Worst};
 use verdict::NotPassed;
 
-// A shape as `Named` writes it, and as a value that may be let go.
-#[derive(Clone, Copy)]
-struct Widths(Shape);
-
-impl fmt::Display for Widths {
-    fn fmt<W: fmt::Write>(&self, f: &mut fmt::Formatter<W>) -> fmt::Result {
-        let named = Named(self.0);
-        let written = write!(f, "{named}");
-        let Named(_) = named;
-        written
-    }
-}
-
 // "n worst side"
 #[derive(Clone, Copy)]
 struct Found(Finding);
@@ -82,7 +69,7 @@ impl fmt::Display for Taken {
         write!(
             f,
             " {} {} {}",
-            Widths(tally.shape),
+            Named(tally.shape),
             tally.next.0,
             Found(tally.finding)
         )
@@ -154,7 +141,7 @@ fn table_7(rt: &impl Print, k: u32) -> io::Result<()>
 fn all_on(rt: &impl Print, shape: Shape, h: u32, b: u32, cells: &[u16]) -> io::Result<()> {
     println!(rt;
         "on {} {h} {b} {}: {}, {}, {}, {}",
-        Widths(shape),
+        Named(shape),
         cells.len(),
         Surveyed(survey::whole(shape, cells)),
         Surveyed(survey::bank(shape, h, b, cells)),
@@ -255,8 +242,8 @@ fn tally_with_one(rt: &impl Print) -> io::Result<()> {
 fn worst_line(rt: &impl Print, kind: Kind) -> io::Result<()> {
     let shape = Shape::of(12, 3, kind);
     match worst_of(shape) {
-        Ok(found) => println!(rt; "{} {}/65536", Widths(shape), found.worst.0),
-        Err(fault) => println!(rt; "{} refused, number {}", Widths(shape), fault.number()),
+        Ok(found) => println!(rt; "{} {}/65536", Named(shape), found.worst.0),
+        Err(fault) => println!(rt; "{} refused, number {}", Named(shape), fault.number()),
     }
 }
 
