@@ -4,16 +4,15 @@
 #![tactic(auto)]
 
 ghost use Rattle.std.specs.Prelude.{◌≡◌, length};
-ghost use Rattle.survey.specs.Tally.{figures_of};
 ghost use Rattle.units.specs.Refusals.{refusal_number};
 ghost use Rattle.listing_line.specs.Line.{asks, line_read};
-ghost use Rattle.listing_text.specs.Inner.Pages.{Listed, IsPart};
+ghost use Rattle.listing_text.specs.Inner.Pages.{IsPart};
 ghost use Rattle.listing_text.specs.Listing.{refused_text, table_text, text_for};
 
 use listing_line::read_line;
-use listing_text::{LINE_MOST, fill_page, line_count, put_refused};
+use listing_text::{BestTable, LINE_MOST, fill_page, line_count, put_refused};
 use programs::read_full;
-use recip::{Finding, Refusal, Shape, build, survey_table};
+use recip::{Refusal, Shape, build, survey_table};
 use std::io;
 
 // Below, `input` is lent for the contracts alone: each function is given what the text for this input
@@ -37,21 +36,15 @@ fn refuse(rt: &impl Print, input: &[u8], r: Refusal) -> io::Result<()>
 
 // Writes the text a page at a time. It stops where a write fails. (15,15), the longest listing, has
 // 1,365,836 bytes and takes eleven pages.
-fn write_text(
-    rt: &impl Print,
-    input: &[u8],
-    shape: Shape,
-    table: &[u16],
-    worst: Finding,
-) -> io::Result<()>
-    requires { (table_text shape ≡ text_for input.now) × (Listed shape table.now (figures_of worst)) }
+fn write_text(rt: &impl Print, input: &[u8], best: BestTable) -> io::Result<()>
+    requires { table_text best.shape ≡ text_for input.now }
 {
     let mut space = [0u8; 131072];
     let page: &mut [u8] = &mut space;
-    let lines = line_count(shape.k);
+    let lines = line_count(best.shape.k);
     let mut next: u32 = 0;
     while next < lines {
-        let filled = fill_page(page, shape, table, worst, next);
+        let filled = fill_page(page, best, next);
         send(rt, input, next, filled.next, &page[..filled.end])?;
         next = filled.next;
     }
@@ -63,11 +56,19 @@ fn write_text(
 fn list(rt: &impl Print, input: &[u8], shape: Shape) -> io::Result<()>
     requires { line_read input.now ≡ asks shape }
 {
-    let mut cells = [0u16; 32768];
-    let table: &mut [u16] = &mut cells;
-    match build(shape, table) {
-        Ok(()) => match survey_table(shape, table) {
-            Ok(worst) => write_text(rt, input, shape, table, worst),
+    let mut space = [0u16; 32768];
+    let cells: &mut [u16] = &mut space;
+    match build(shape, cells) {
+        Ok(()) => match survey_table(shape, cells) {
+            Ok(worst) => write_text(
+                rt,
+                input,
+                BestTable {
+                    shape,
+                    cells,
+                    worst,
+                },
+            ),
             Err(_) => unreachable!(),
         },
         Err(r) => refuse(rt, input, r),

@@ -8,8 +8,16 @@ refuse-requires g c = build_refused c.args.input.now c.args.shape c.requires c.i
 
 pub write_text-requires : goal.write_text-requires
 write_text-requires g c =
-    build_listed c.args.input.now c.args.shape c.requires _ refl _ c.in-Ok.ensures.cells c.in-Ok.ensures.answer c.in-Ok-survey_table.worst
-    c.in-Ok-survey_table.ensures
+    (build_listed c.args.input.now c.args.shape c.requires _ refl _ c.in-Ok.ensures.cells c.in-Ok.ensures.answer c.in-Ok-survey_table.worst
+    c.in-Ok-survey_table.ensures).0
+
+pub invariant_of-write_text : goal.invariant_of-write_text
+invariant_of-write_text g c =
+    record {
+      listed =
+          (build_listed c.args.input.now c.args.shape c.requires _ refl _ c.in-Ok.ensures.cells c.in-Ok.ensures.answer c.in-Ok-survey_table.worst
+          c.in-Ok-survey_table.ensures).1;
+    }
 
 -- where the build is done, the survey gives a finding
 pub unreachable-requires : goal.unreachable-requires

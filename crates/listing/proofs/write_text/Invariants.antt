@@ -4,7 +4,7 @@ use Rattle.listing_text.specs.Listing.{line_count}
 use Rattle.listing.proofs.write_text.Given as goal
 
 abbrev pub invariant-loop-next : goal.invariant-loop-next
-invariant-loop-next g l = (length l.page ≡ 131072) × (l.next ≤ line_count l.fn.shape.k)
+invariant-loop-next g l = (length l.page ≡ 131072) × (l.next ≤ line_count l.fn.best.shape.k)
 
 abbrev pub decreases-loop-next : goal.decreases-loop-next
-decreases-loop-next g l = line_count l.fn.shape.k - l.next
+decreases-loop-next g l = line_count l.fn.best.shape.k - l.next

@@ -10,5 +10,5 @@ invariant-loop-next l = record {
   size : length l.text.bytes.now ≡ length l.initial.text.bytes.now;
   nothing : l.next ≡ l.fn.from → l.text.end ≡ 0;
   inside : l.text.end ≤ length l.text.bytes.now;
-  text_is : take l.text.end l.text.bytes.now ≡ part (table_text l.fn.shape) l.fn.from l.next;
+  text_is : take l.text.end l.text.bytes.now ≡ part (table_text l.fn.best.shape) l.fn.from l.next;
 }
