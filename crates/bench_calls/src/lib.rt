@@ -13,8 +13,8 @@ ghost use Rattle.memory_text.specs.Read.{read_report, read_cells};
 ghost use Rattle.bench_calls.specs.Numbers.{shape_of, check_numbers, survey_numbers, lookup_numbers, write_numbers, read_numbers};
 
 use recip::{
-    Kind, NotPassed, ReadError, Shape, build, check_table, look_up, number_of, read_memory,
-    survey_table, write_memory,
+    Kind, NotPassed, Shape, build, check_table, look_up, number_of, read_memory, survey_table,
+    write_memory,
 };
 
 // A table's shape: `one` says whether it is a table with one.
@@ -113,11 +113,6 @@ pub extern "C" fn quirelinnet_read_memory(
 {
     *out = match read_memory(shape_of(k, m, one), text, table) {
         Ok(()) => [0, 0, 0],
-        Err(ReadError::BadToken(from)) => [8, from.0 as u64, 0],
-        Err(ReadError::PastTable(from)) => [9, from.0 as u64, 0],
-        Err(ReadError::TooWide(from)) => [5, from.0 as u64, 0],
-        Err(ReadError::GivenTwice(from)) => [10, from.0 as u64, 0],
-        Err(ReadError::Missing(n)) => [11, 0, n.0 as u64],
-        Err(ReadError::Refused(r)) => [r.number() as u64, 0, 0],
+        Err(e) => [e.number() as u64, e.offset().0 as u64, e.n().0 as u64],
     };
 }

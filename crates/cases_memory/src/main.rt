@@ -39,12 +39,7 @@ impl From<Result<(), ReadError>> for Numbers {
     fn from(answer: Result<(), ReadError>) -> Numbers {
         let (number, place, n) = match answer {
             Ok(()) => (0, 0, 0),
-            Err(ReadError::BadToken(at)) => (8, at.0, 0),
-            Err(ReadError::PastTable(at)) => (9, at.0, 0),
-            Err(ReadError::TooWide(at)) => (5, at.0, 0),
-            Err(ReadError::GivenTwice(at)) => (10, at.0, 0),
-            Err(ReadError::Missing(n)) => (11, 0, n.0),
-            Err(ReadError::Refused(r)) => (r.number(), 0, 0),
+            Err(e) => (e.number(), e.offset().0, e.n().0),
         };
         Numbers { number, place, n }
     }
@@ -170,7 +165,8 @@ impl Drive {
 
     // The number, the offset and n, and all cells after the call, those that were not lent too.
     fn read(&mut self, i: Inputs) {
-        // The borrow checker does not cover `&mut self.cells[..i.lent]` in one step beside the text.
+        // Lent first as a whole: the borrow checker does not cover a part of an array beside the text, which has
+        // a ghost field.
         let cells = &mut self.cells[..];
         let answer = self.text.read(i.shape, &mut cells[..i.lent]);
         let a = Numbers::from(answer);

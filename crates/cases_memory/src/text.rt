@@ -15,7 +15,8 @@ fn palette(draws: &mut Draws) -> u8 {
     PALETTE[draws.small(16) as usize]
 }
 
-// 2^w, of a width from 1 to 4. Another counts as 1. (An arm for each: the check finds no bound of `1 << w`.)
+// 2^w, of a width from 1 to 4. Another counts as 1. (An arm for each: the check finds no bound of a power,
+// be it `1 << w` or `small_power(w)`.)
 fn size_of(w: u32) -> u32
     ensures { (0 < result) × (result ≤ 16) }
 {
@@ -171,7 +172,8 @@ impl Text {
     pub fn write(&mut self, shape: Shape, cells: &[u16], room: usize) -> Result<Offset, Fault>
         requires { room ≤ 600 }
     {
-        // The borrow checker does not cover `&mut self.bytes[..room]` in one step.
+        // Lent first as a whole: the borrow checker does not cover a part of an array in a struct with a ghost
+        // field.
         let bytes = &mut self.bytes[..];
         let length = write_memory(shape, cells, &mut bytes[..room])?;
         self.len = length.0.min(600);

@@ -20,7 +20,8 @@ pub fn placed(shape: Shape, n: Interval) -> Result<Place, Refusal>
     Ok(Place { shape, n })
 }
 
-// The same, and 5, of a field that stands by itself: it is tested for them, and what it stands for.
+// The same tests, and 5, of a field that stands by itself; the entry that passes them has what the field
+// stands for.
 pub fn entry_placed(shape: Shape, n: Interval, f: u16) -> Result<PlacedEntry, Fault>
     ensures answer { fault_reply_of result ≡ refusal (entry_tests shape n.0 f) }
     ensures same { IfOk result (λ entry. (entry.shape ≡ shape) × ((entry.n ≡ n) × (entry.j.0 ≡ j_of shape f))) }

@@ -59,8 +59,8 @@ fn check(rt: &impl Print, asked: Asked, memory: &[u8], table: &[u16]) -> io::Res
         Err(NotPassed::NotBest { n, worst, least }) => {
             println!(rt; "not best {} {} {}", n.0, worst.0, least.0)
         }
-        Err(NotPassed::Faulty(Fault::TooWide(n))) => refused_at(rt, 5, n.0 as usize),
         Err(NotPassed::Faulty(Fault::Refused(r))) => refused(rt, r),
+        Err(NotPassed::Faulty(fault)) => refused_at(rt, fault.number(), fault.n().0 as usize),
     }
 }
 
@@ -69,12 +69,9 @@ fn take(rt: &impl Print, asked: Asked, memory: &[u8]) -> io::Result<()> {
     let table: &mut [u16] = &mut cells;
     match read_memory(asked.shape, memory, table) {
         Ok(()) => check(rt, asked, memory, table),
-        Err(ReadError::BadToken(at)) => refused_at(rt, 8, at.0),
-        Err(ReadError::PastTable(at)) => refused_at(rt, 9, at.0),
-        Err(ReadError::TooWide(at)) => refused_at(rt, 5, at.0),
-        Err(ReadError::GivenTwice(at)) => refused_at(rt, 10, at.0),
-        Err(ReadError::Missing(n)) => refused_at(rt, 11, n.0 as usize),
         Err(ReadError::Refused(r)) => refused(rt, r),
+        Err(e @ ReadError::Missing(n)) => refused_at(rt, e.number(), n.0 as usize),
+        Err(e) => refused_at(rt, e.number(), e.offset().0),
     }
 }
 

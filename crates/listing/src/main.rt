@@ -5,14 +5,13 @@
 
 ghost use Rattle.std.specs.Prelude.{◌≡◌, length};
 ghost use Rattle.units.specs.Refusals.{refusal_number};
-ghost use Rattle.listing_line.specs.Line.{asks, line_read};
 ghost use Rattle.listing_text.specs.Inner.Pages.{IsPart};
 ghost use Rattle.listing_text.specs.Listing.{refused_text, table_text, text_for};
 
-use listing_line::read_line;
+use listing_line::{Asked, read_line};
 use listing_text::{BestTable, LINE_MOST, fill_page, line_count, put_refused};
 use programs::read_full;
-use recip::{Refusal, Shape, build, survey_table};
+use recip::{Refusal, build, survey_table};
 use std::io;
 
 // Below, `input` is lent for the contracts alone: each function is given what the text for this input
@@ -34,8 +33,8 @@ fn refuse(rt: &impl Print, input: &[u8], r: Refusal) -> io::Result<()>
     send(rt, input, 0, 1, &page[..end])
 }
 
-// Writes the text a page at a time. It stops where a write fails. (15,15), the longest listing, has
-// 1,365,836 bytes and takes eleven pages.
+// Writes the text a page at a time. It stops where a write fails. (No `for`: how many lines a page takes is
+// known once it is filled.) (15,15), the longest listing, has 1,365,836 bytes and takes eleven pages.
 fn write_text(rt: &impl Print, input: &[u8], best: BestTable) -> io::Result<()>
     requires { table_text best.shape ≡ text_for input.now }
 {
@@ -53,16 +52,15 @@ fn write_text(rt: &impl Print, input: &[u8], best: BestTable) -> io::Result<()>
 
 // No input leads to `unreachable!`, which is proved: the survey of a table that was built is never refused
 // (`built_survey_done`).
-fn list(rt: &impl Print, input: &[u8], shape: Shape) -> io::Result<()>
-    requires { line_read input.now ≡ asks shape }
-{
+fn list(rt: &impl Print, asked: Asked) -> io::Result<()> {
+    let Asked { line, shape, .. } = asked;
     let mut space = [0u16; 32768];
     let cells: &mut [u16] = &mut space;
     match build(shape, cells) {
         Ok(()) => match survey_table(shape, cells) {
             Ok(worst) => write_text(
                 rt,
-                input,
+                line,
                 BestTable {
                     shape,
                     cells,
@@ -71,7 +69,7 @@ fn list(rt: &impl Print, input: &[u8], shape: Shape) -> io::Result<()>
             ),
             Err(_) => unreachable!(),
         },
-        Err(r) => refuse(rt, input, r),
+        Err(r) => refuse(rt, line, r),
     }
 }
 
@@ -82,7 +80,7 @@ fn main(rt: HostRuntime) -> io::Result<()> {
     let got = read_full(&rt, &mut input);
     let line = &input[..got];
     match read_line(line) {
-        Ok(shape) => list(&rt, line, shape),
+        Ok(shape) => list(&rt, Asked { line, shape }),
         Err(r) => refuse(&rt, line, r),
     }
 }

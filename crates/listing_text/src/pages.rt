@@ -55,7 +55,7 @@ pub fn fill_page(page: &mut [u8], best: BestTable, from: u32) -> Filled
         end: 0,
     };
     for next in from..lines {
-        // The empty page has room, so this is not where the first line is put.
+        // Never before the first line: the empty page has room for it.
         if text.bytes.len() - text.end < LINE_MOST {
             return Filled {
                 next,

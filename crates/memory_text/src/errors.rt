@@ -1,5 +1,6 @@
 // Why "Read memory" reads no table.
 ghost use Rattle.std.specs.Prelude.{◌≡◌};
+ghost use Rattle.memory_text.specs.Read.{error_report};
 ghost use Rattle.memory_text.specs.declared.errors.ReadError.TheVariants.{BadToken, Refused};
 
 use memory_tokens::Faulty;
@@ -18,6 +19,46 @@ pub enum ReadError {
     // 11: a cell that was not given.
     Missing(Interval),
     Refused(Refusal),
+}
+
+impl ReadError {
+    // The documents' number for it.
+    pub fn number(self) -> u32
+        ensures { result ≡ (error_report self).number }
+    {
+        match self {
+            ReadError::BadToken(_) => 8,
+            ReadError::PastTable(_) => 9,
+            ReadError::TooWide(_) => 5,
+            ReadError::GivenTwice(_) => 10,
+            ReadError::Missing(_) => 11,
+            ReadError::Refused(refusal) => refusal.number(),
+        }
+    }
+
+    // The offset that it names, or 0.
+    pub fn offset(self) -> Offset
+        ensures { result.0 ≡ (error_report self).offset }
+    {
+        match self {
+            ReadError::BadToken(at) => at,
+            ReadError::PastTable(at) => at,
+            ReadError::TooWide(at) => at,
+            ReadError::GivenTwice(at) => at,
+            ReadError::Missing(_) => Offset(0),
+            ReadError::Refused(_) => Offset(0),
+        }
+    }
+
+    // The n that it names, or 0.
+    pub fn n(self) -> Interval
+        ensures { result.0 ≡ (error_report self).n }
+    {
+        match self {
+            ReadError::Missing(n) => n,
+            _ => Interval(0),
+        }
+    }
 }
 
 impl From<Refusal> for ReadError {

@@ -16,8 +16,7 @@ fn grown(value: u32, digit: u32) -> u32
     requires { (value ≤ 65536) × (digit < 16) }
     ensures { result ≡ capped (value * 16 + digit) }
 {
-    let next = value * 16 + digit;
-    if next < 65536 { next } else { 65536 }
+    (value * 16 + digit).min(65536)
 }
 
 // The digits and underscores from a place to the token's end, after others that showed `before`, if no

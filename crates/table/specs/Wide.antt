@@ -1,11 +1,10 @@
 -- Number 5 over a list of fields: "number and the smallest such n". Document 01, "Refusal numbers and their order".
 -- Assumes nothing.
-use Rattle.std.specs.Prelude.{ℕ, ◌^◌, Bool, List, [], ◌∷◌, ◌++◌, length, take, Result}
-use Rattle.units.specs.Refusals.{Reply, reply, fault_reply_of, Test, test, table_tests}
+use Rattle.std.specs.Prelude.{ℕ, ◌^◌, Bool, List, [], ◌∷◌, ◌++◌, length, take}
+use Rattle.units.specs.Refusals.{reply, Test, test, table_tests}
 use Rattle.units.specs.declared.shapes.Shape.{Shape}
 use Rattle.entry.specs.Fields.{is_wide}
 use Rattle.table.specs.First.{any_of, first_of}
-use Rattle.units.specs.declared.refusals.Fault.{Fault}
 
 -- whether one of the fields is over-wide
 abbrev pub any_wide : Shape → List ℕ → Bool
@@ -21,7 +20,3 @@ wide_among s n fs = test (any_wide s fs) (reply 5 (first_wide s n fs))
 -- "Survey and check look for 5 in the whole lent table (or bank) first": 1, 2, 3, 5. The table is the first 2^k cells
 abbrev pub field_tests : Shape → List ℕ → List Test
 field_tests s cells = table_tests s (length cells) ++ (wide_among s 0 (take (2 ^ s.k) cells) ∷ [])
-
--- what the tests end in: "done", 5 with its n, or a number only
-abbrev pub fields_reply : {A : Type 0} → Result A Fault → Reply
-fields_reply answer = fault_reply_of answer

@@ -9,7 +9,7 @@ use crate::powers::power;
 use crate::shapes::Shape;
 
 // The refusals that give a number only. Number 5 names an interval besides, so it stands beside them in
-// a `Fault`, and those of a memory text that name a place, 8, 9, 10 and 11, in an error of their own.
+// a `Fault`. Those of a memory text that name a place, 8, 9, 5, 10 and 11, are an error of their own.
 #[derive(Clone, Copy, Debug, PartialEq, Eq)]
 pub enum Refusal {
     // 1: k is not from 1 to 15.
@@ -188,7 +188,7 @@ pub fn widths(shape: Shape) -> Result<GoodShape, Refusal>
     Ok(GoodShape { shape })
 }
 
-// 1, 2 and 3, with which check and look up begin.
+// 1, 2 and 3, with which every call begins that takes a whole table.
 #[tactic(auto, using(crate::proofs::Laws::Tests::refusal_numbered), unfolding(crate::specs::Refusals::answer))]
 pub fn whole_table(shape: Shape, lent: usize) -> Result<GoodShape, Refusal>
     ensures answer { reply_of result ≡ refusal (table_tests shape lent) }

@@ -42,9 +42,9 @@ fn not_best(entry: PlacedEntry) -> NotPassed
     NotPassed::NotBest { n, worst, least }
 }
 
-// "The scan ends there and yields that finding": a loop whose break gives the first entry that isn't
-// best, or yes at the end. (A `for` has no such break, so the cells are counted by hand.) The builder's
-// quotient goes along: one product and no division for an entry that passes.
+// "The scan ends there and yields that finding": the loop's break gives the first entry that isn't best,
+// or yes at the end. Document 01 names this form, and no other loop has a break that gives a value. The
+// builder's quotient goes along: one product and no division for an entry that passes.
 fn scan(good: GoodShape, cells: &[u16]) -> Result<(), NotPassed>
     requires fits { length cells.now ≤ 2 ^ good.shape.k }
     requires narrow { any_wide good.shape cells.now ≡ false }
