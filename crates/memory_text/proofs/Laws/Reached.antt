@@ -71,6 +71,7 @@ next_length a cells t = by_kind t.address
 pub record Reached (s : Shape) (text cells : List ℕ) (p : Progress) (at : ℕ) : Type 0 where
   pub size : length cells ≡ 2 ^ s.k
   pub within : at ≤ length text
+  pub near : p.address ≤ 2 ^ s.k
   pub counted : p.given ≡ count_given cells
   pub left_is : obeyed s p.address cells (tokens_from text (outside false) at) ≡ reading s text
 
@@ -80,6 +81,7 @@ module _ (s : Shape) (text : List ℕ) where
       record {
         size = ap length is ∙ length-replicate (2 ^ s.k) missing;
         within = omega arith;
+        near = omega arith;
         counted = sym (ap count_given is ∙ count_none (2 ^ s.k));
         left_is = rw is refl;
       }
@@ -127,6 +129,7 @@ module _ (s : Shape) (text : List ℕ) where
           record {
             size = ap length on.cells_are ∙ next_length p.address cells (says word) ∙ r.size;
             within = next.within;
+            near = on.near;
             counted = on.counted r.counted;
             left_is =
                 ap₂ (λ (a : ℕ) (cs : List ℕ). obeyed s a cs (tokens_from text (outside false) end)) (on.address_is ∙ ap (next_address p.address) it)

@@ -4,7 +4,8 @@ use mathlib.Core.Bool.{Bool, true, false, cond}
 use mathlib.Core.List.{List, [], ◌∷◌}
 use mathlib.Core.Path.{◌≡◌, sym, ap, ◌∙◌}
 use native.Mathlib.Omega.{arith}
-use borrow.Author.Tests.{lt-ltb, ne_eqb}
+use borrow.Author.Tests.{lt-ltb, le-ltb, ne_eqb}
+use lib.Dec.{eqb}
 use lib.ListN.{length, drop, get_or}
 use Rattle.std.proofs.Common.{◌≢◌}
 use Rattle.std.specs.Prelude.{Option, Some, None}
@@ -75,10 +76,10 @@ module _ {text : List ℕ} {from before value at : ℕ} (s : Spelling text from 
               ∙ ap (λ (x : ℕ). capped (shows x rest)) (sym e);
         }
 
-    module _ (other : digit_of (get_or text at 0) ≡ 16) where
+    module _ (other : 16 ≤ digit_of (get_or text at 0)) where
       no_digit : is_digit b ≡ false
       unfolding is_digit b
-      no_digit = rw other
+      no_digit = le-ltb (digit_of (get_or text at 0)) 16 other
 
       pub spelling_underscore : get_or text at 0 ≡ underscore → Spelling text from before value (at + 1)
       unfolding goes_on b bs
@@ -94,9 +95,12 @@ module _ {text : List ℕ} {from before value at : ℕ} (s : Spelling text from 
             value_is = s.value_is ∙ ap capped (ap (shows value) word ∙ shows_other value b (word_from text (at + 1)) no_digit);
           }
 
-      pub spelling_bad : get_or text at 0 ≢ underscore → ends_at text at ≡ false → goes_on (word_from text from) ≡ false
+      pub spelling_bad : eqb (get_or text at 0) underscore ≡ false → ends_at text at ≡ false → goes_on (word_from text from) ≡ false
       unfolding goes_on b
-      spelling_bad other' goes = s.good_is ∙ rw (word_goes_on text at inside goes, no_digit, ne_eqb (get_or text at 0) underscore other')
+      spelling_bad other' goes = s.good_is ∙ rw (word_goes_on text at inside goes, no_digit, other')
+
+    pub spelling_other : digit_of (get_or text at 0) ≡ 16 → get_or text at 0 ≢ underscore → ends_at text at ≡ false → goes_on (word_from text from) ≡ false
+    spelling_other is other goes = spelling_bad (omega (arith, is)) (ne_eqb (get_or text at 0) underscore other) goes
 
   -- it ends where the token does
   ended : word_from text at ≡ [] → tokens_from text (outside true) at ≡ tokens_from text (outside false) at → RestIs text from before value at
@@ -121,9 +125,12 @@ module _ (text : List ℕ) (from : ℕ) where
   number_past h = rw (word_past text from h)
 
   module _ (inside : from < length text) where
-    pub first_bad : digit_of (get_or text from 0) ≡ 16 → is_numeral (word_from text from) ≡ false
+    pub first_bad : 16 ≤ digit_of (get_or text from 0) → is_numeral (word_from text from) ≡ false
     unfolding is_numeral is_digit
-    first_bad other = grind (arith, word_ends, word_goes_on)
+    first_bad other = grind (arith, word_ends, word_goes_on, le-ltb)
+
+    pub first_other : digit_of (get_or text from 0) ≡ 16 → is_numeral (word_from text from) ≡ false
+    first_other is = first_bad (omega (arith, is))
 
     module _ {d : ℕ} (is : d ≡ digit_of (get_or text from 0)) (small : d < 16) where
       digit : is_digit (get_or text from 0) ≡ true
