@@ -16,16 +16,10 @@ returns-in_err-good c =
     handed_on reported _ _ c.from_residual.ensures.1
     ∙ fault_so refused _ (field_tests c.args.shape c.args.table.now) [] _ c.in_err-good.ensures.answer
 
-pub power-size-requires : goal.power-size-requires
-power-size-requires c = omega (arith, (fields_done c.args.shape c.args.table.now c.in_ok-good.ensures.answer).table.widths)
-
 pub slice_bounds-scan-end : goal.slice_bounds-scan-end
 slice_bounds-scan-end c =
     let enough = (fields_done c.args.shape c.args.table.now c.in_ok-good.ensures.answer).table.enough in
     simp length-take (omega (arith, c.power-size.ensures, enough))
-
-pub scan-requires-clause-fits : goal.scan-requires-clause-fits
-scan-requires-clause-fits c = rw c.in_ok-good.ensures.same (simp length-take (omega (arith, c.power-size.ensures)))
 
 pub scan-requires-clause-narrow : goal.scan-requires-clause-narrow
 scan-requires-clause-narrow c =

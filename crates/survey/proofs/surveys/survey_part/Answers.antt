@@ -1,9 +1,8 @@
 -- `survey::survey_part` meets its contract: the cells up to `end` are lent, or they are too few. Assumes nothing.
 use mathlib.Core.List.{[], ◌∷◌}
 use mathlib.Core.Path.{◌∙◌}
-use native.Mathlib.Omega.{arith}
 use borrow.Author.Tests.{lt-ltb, le-ltb}
-use lib.ListN.{length, length-take, length-drop}
+use lib.ListN.{length}
 use Rattle.units.specs.Refusals.{few_cells}
 use Rattle.units.proofs.Laws.Tests.{refused_after}
 use Rattle.survey.specs.Survey.{refused}
@@ -13,9 +12,6 @@ use Rattle.survey.proofs.surveys.survey_part.Goals as goal
 pub returns-then-cells-part : goal.returns-then-cells-part
 returns-then-cells-part c =
     refused_after refused _ [] (few_cells (length c.args.cells.now) c.args.part.end) _ tt (lt-ltb _ _ c.if-cells-part.true)
-
-pub survey_fields-requires : goal.survey_fields-requires
-survey_fields-requires c = simp (length-take, length-drop) (omega (arith, c.requires))
 
 pub returns : goal.returns
 returns c =

@@ -17,16 +17,10 @@ use Rattle.table.proofs.fields.whole_fields.Goals as goal
 good : (s : Shape) (lent : ℕ) → reply 0 0 ≡ refusal (table_tests s lent) → GoodTable s lent
 good s lent e = table_good (done_so (table_tests s lent) (omega arith) e)
 
-pub power-size-requires : goal.power-size-requires
-power-size-requires c = omega (arith, (good c.args.shape _ c.in_ok-good.ensures.answer).widths)
-
 pub slice_bounds-wide_among-end : goal.slice_bounds-wide_among-end
 slice_bounds-wide_among-end c =
     let enough = (good c.args.shape _ c.in_ok-good.ensures.answer).enough in
     simp length-take (omega (arith, c.power-size.ensures, enough))
-
-pub wide_among-requires : goal.wide_among-requires
-wide_among-requires c = rw c.in_ok-good.ensures.same (simp length-take (omega (arith, c.power-size.ensures)))
 
 -- the tests of the whole table refuse
 pub returns-in_err-good-clause-answer : goal.returns-in_err-good-clause-answer
