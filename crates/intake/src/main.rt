@@ -16,7 +16,7 @@ ghost use Rattle.memory_text.specs.Read.{read_report};
 ghost use Rattle.intake.specs.Accepted.{cells_of, Accepted};
 
 use listing_line::{Asked, read_line};
-use programs::read_full;
+use programs::{read_full, zeroed};
 use recip::{Fault, NotPassed, ReadError, Refusal, check_table, read_memory};
 use std::io;
 
@@ -65,7 +65,7 @@ fn check(rt: &impl Print, asked: Asked, memory: &[u8], table: &[u16]) -> io::Res
 }
 
 fn take(rt: &impl Print, asked: Asked, memory: &[u8]) -> io::Result<()> {
-    let mut cells = [0u16; 32768];
+    let mut cells = zeroed();
     let table: &mut [u16] = &mut cells;
     match read_memory(asked.shape, memory, table) {
         Ok(()) => check(rt, asked, memory, table),

@@ -10,7 +10,7 @@ ghost use Rattle.listing_text.specs.Listing.{refused_text, table_text, text_for}
 
 use listing_line::{Asked, read_line};
 use listing_text::{BestTable, LINE_MOST, fill_page, line_count, put_refused};
-use programs::read_full;
+use programs::{read_full, zeroed};
 use recip::{Refusal, build, survey_table};
 use std::io;
 
@@ -54,7 +54,7 @@ fn write_text(rt: &impl Print, input: &[u8], best: BestTable) -> io::Result<()>
 // (`built_survey_done`).
 fn list(rt: &impl Print, asked: Asked) -> io::Result<()> {
     let Asked { line, shape, .. } = asked;
-    let mut space = [0u16; 32768];
+    let mut space = zeroed();
     let cells: &mut [u16] = &mut space;
     match build(shape, cells) {
         Ok(()) => match survey_table(shape, cells) {

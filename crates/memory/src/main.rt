@@ -7,7 +7,7 @@ ghost use Rattle.memory_text.specs.Write.{memory_text};
 ghost use Rattle.memory.specs.Text.{best_text};
 
 use listing_line::{Asked, read_line};
-use programs::read_full;
+use programs::{read_full, zeroed};
 use recip::{Refusal, build, write_memory};
 use std::io;
 
@@ -42,7 +42,7 @@ fn write(rt: &impl Print, asked: Asked, table: &[u16]) -> io::Result<()>
 }
 
 fn write_best(rt: &impl Print, asked: Asked) -> io::Result<()> {
-    let mut cells = [0u16; 32768];
+    let mut cells = zeroed();
     let table: &mut [u16] = &mut cells;
     match build(asked.shape, table) {
         Ok(()) => write(rt, asked, table),

@@ -3,12 +3,13 @@ ghost use Rattle.std.specs.Prelude.{◌≡◌, suc, ◌<◌, length, drop, get_o
 ghost use Rattle.memory_tokens.specs.Tokens.{is_white, opens as Tokens·opens, ends};
 ghost use Rattle.memory_tokens.specs.Inner.Places.{IsDigit};
 
-// "white space (blank, tab, newline, form feed)".
+// "white space (blank, tab, newline, form feed)". By `|` it is one test of bits, where a pattern is four
+// branches.
 #[tactic(auto, unfolding(crate::specs::Tokens::is_white))]
 pub(crate) fn is_white(b: u8) -> bool
     ensures { result ≡ is_white b }
 {
-    matches!(b, b' ' | b'\t' | b'\n' | b'\x0c')
+    (b == b' ') | (b == b'\t') | (b == b'\n') | (b == b'\x0c')
 }
 
 // What a byte shows, if it is a digit.

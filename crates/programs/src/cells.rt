@@ -1,6 +1,14 @@
-// The digest by which two programs compare their cells and bytes.
-ghost use Rattle.std.specs.Prelude.{◌≡◌};
+// The cells of the programs, and the digest by which two of them compare cells and bytes.
+ghost use Rattle.std.specs.Prelude.{◌≡◌, length, replicate};
 ghost use Rattle.programs.specs.Digests.{stirred, Stirs};
+
+// "It keeps one table of 32,768 cells, zeroed at the start."
+pub fn zeroed() -> [u16; 32768]
+    ensures cells { result ≡ replicate 32768 0 }
+    ensures size { 32768 ≡ length result }
+{
+    [0; 32768]
+}
 
 // The digest of the values so far.
 #[derive(Clone, Copy, Debug, PartialEq, Eq)]

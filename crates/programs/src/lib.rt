@@ -1,5 +1,5 @@
-// What the programs over the library share: reading, the digest of cells and bytes, what is drawn, and how
-// a shape is written.
+// What the programs over the library share: a table of zeros, reading, the digest of cells and bytes, what
+// is drawn, and how a shape is written.
 #![tactic(auto)]
 
 mod cells;
@@ -7,7 +7,7 @@ mod drawing;
 mod kinds;
 mod reading;
 
-pub use cells::{Digest, digest_of};
+pub use cells::{Digest, digest_of, zeroed};
 pub use drawing::Draws;
 pub use kinds::Named;
 pub use reading::read_full;

@@ -73,8 +73,8 @@ pub fn bank(shape: Shape, h: u32, b: u32, cells: &[u16]) -> Result<Finding, Faul
     ensures { reported result ≡ bank_report shape h b cells.now }
 {
     let bank = named_bank(shape, h, b)?;
-    let size = bank.end - bank.start;
-    survey_part(GoodShape { shape }, bank.start as u32, cells, 0..size)
+    let size = bank.end - bank.first;
+    survey_part(GoodShape { shape }, bank.first as u32, cells, 0..size)
 }
 
 // The same, lent the table: the part from b·2^(k-h) on.
@@ -82,5 +82,6 @@ pub fn bank_of(shape: Shape, h: u32, b: u32, table: &[u16]) -> Result<Finding, F
     ensures { reported result ≡ bank_of_report shape h b table.now }
 {
     let bank = named_bank(shape, h, b)?;
-    survey_part(GoodShape { shape }, bank.start as u32, table, bank)
+    let part = bank.first..bank.end;
+    survey_part(GoodShape { shape }, bank.first as u32, table, part)
 }

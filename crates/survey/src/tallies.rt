@@ -89,6 +89,7 @@ impl Tally {
     }
 
     // "It .. takes the field of that next n."
+    #[tactic(auto, using(crate::proofs::Laws::TallyReport::refused_taken))]
     pub fn take(self, f: u16) -> Result<Tally, NotTaken>
         ensures { reported result ≡ tally_report (state_of self) f }
     {

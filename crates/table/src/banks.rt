@@ -8,6 +8,13 @@ ghost use Rattle.table.specs.Banks.{bank_size, bank_start, bank_name, bank_place
 use std::ops::Range;
 use units::{Refusal, Shape, bank_height, bank_number, few_cells, power, widths};
 
+// The cells from first up to end, which is not among them. It can be copied, which a range cannot.
+#[derive(Clone, Copy, Debug, PartialEq, Eq)]
+pub struct Stretch {
+    pub first: usize,
+    pub end: usize,
+}
+
 // "bank b (0 to 2^h - 1) is the 2^(k-h) entries from b·2^(k-h) on"
 pub(crate) fn bank_at(k: u32, h: u32, b: u32) -> Range<usize>
     requires { GoodBank k h b }
@@ -44,9 +51,13 @@ fn namable(shape: Shape, h: u32, b: u32) -> Result<(), Refusal>
 
 // Where bank b of 2^h lies in its table, after the same tests. It is lent no cell, so it does not ask
 // for 3.
-pub fn named_bank(shape: Shape, h: u32, b: u32) -> Result<Range<usize>, Refusal>
+pub fn named_bank(shape: Shape, h: u32, b: u32) -> Result<Stretch, Refusal>
     ensures { located result ≡ bank_located shape h b }
 {
     namable(shape, h, b)?;
-    Ok(bank_at(shape.k, h, b))
+    let bank = bank_at(shape.k, h, b);
+    Ok(Stretch {
+        first: bank.start,
+        end: bank.end,
+    })
 }

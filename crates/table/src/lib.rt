@@ -8,7 +8,7 @@ mod fields;
 mod lookups;
 mod views;
 
-pub use banks::named_bank;
+pub use banks::{Stretch, named_bank};
 pub use builders::{build, build_bank};
 pub use fields::whole_fields;
 pub use lookups::{Found, look_up};

@@ -213,7 +213,7 @@ few_digits : {a : List ℕ} {k : ℕ} → Digits a k → length a ≤ 2
 few_digits (one v h) = omega arith
 few_digits (two u v g h) = omega arith
 
-kind_word_most : (kind : Kind) → length (kind_word kind) ≤ 4
+pub kind_word_most : (kind : Kind) → length (kind_word kind) ≤ 4
 kind_word_most Plain = omega arith
 kind_word_most WithOne = omega arith
 

@@ -1,4 +1,4 @@
--- The answer of `Tally::take` can be read back from its numbers, so no two answers have the same; and when its
+-- The answer of `Tally::take` where it is refused; that it can be read back from its numbers, so no two answers have the same; and when its
 -- n is zero. Assumes nothing.
 use mathlib.Core.Path.{◌≡◌, refl, ap, ◌∙◌}
 use Rattle.std.specs.Prelude.{Result, Ok, Err}
@@ -10,8 +10,15 @@ use Rattle.survey.specs.declared.tallies.Tally.{Tally}
 use Rattle.survey.specs.declared.tallies.NotTaken.{NotTaken}
 use Rattle.survey.proofs.Laws.Report.{finding_back, finding_reads}
 use Prim.Native.Nat.{ℕ}
-use Rattle.units.proofs.Laws.Tests.{answer_has}
+use mathlib.Core.List.{[]}
+use Rattle.units.specs.Refusals.{refusal, fault_reply}
+use Rattle.units.proofs.Laws.Tests.{answer_has, fault_so}
 use Rattle.entry.specs.Report.{entry_tests}
+
+-- the fault of a tally's tests is its answer, with the tally as it was
+pub refused_taken : (t : Tally) (f : ℕ) (fault : Fault) → fault_reply fault ≡ refusal (entry_tests t.shape t.next.0 f)
+    → reported (Err (record { fault = fault; tally = t })) ≡ tally_report (state_of t) f
+refused_taken t f fault tests = fault_so (handed_back (state_of t)) _ (entry_tests t.shape t.next.0 f) [] fault tests
 
 tally_back : State → Tally
 tally_back s = record { shape = s.shape; next = record { 0 = s.next }; finding = finding_back s.finding }

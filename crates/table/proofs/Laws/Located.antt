@@ -11,20 +11,20 @@ use Rattle.table.specs.Banks.{bank_size, bank_start, named_tests}
 use Rattle.table.specs.Inner.Good.{GoodNamed}
 use Rattle.table.specs.Inner.Located.{Located, unlocated, located, bank_located}
 use Rattle.std.specs.Prelude.{Ok, Err}
-use Rattle.std.specs.declared.ops.Range.{Range}
+use Rattle.table.specs.declared.banks.Stretch.{Stretch}
 use Rattle.table.proofs.Laws.Banks.{Within, good_bank_within}
 use Rattle.table.proofs.Laws.Good.{named_good}
 
 -- a stretch is that of bank b of 2^h, which lies within the table
-pub record IsBank (s : Shape) (h b : ℕ) (place : Range ℕ) : Type 0 where
+pub record IsBank (s : Shape) (h b : ℕ) (place : Stretch) : Type 0 where
   pub named : GoodNamed s h b
-  pub first_is : place.start ≡ bank_start s.k h b
+  pub first_is : place.first ≡ bank_start s.k h b
   pub end_is : place.end ≡ bank_start s.k h b + bank_size s.k h
-  pub size_is : place.end - place.start ≡ bank_size s.k h
-  pub ends : Within s.k place.start place.end
+  pub size_is : place.end - place.first ≡ bank_size s.k h
+  pub ends : Within s.k place.first place.end
 
 module _ (s : Shape) (h b : ℕ) where
-  pub at_is_bank : (place : Range ℕ) → located (Ok place) ≡ bank_located s h b → IsBank s h b place
+  pub at_is_bank : (place : Stretch) → located (Ok place) ≡ bank_located s h b → IsBank s h b place
   at_is_bank place is =
       let passed =
       zero_passed (λ (l : Located). l.number) unlocated _ (named_tests s h b) (omega arith) (λ r. refl) refl (sym (ap (λ (l : Located). l.number) is)) in

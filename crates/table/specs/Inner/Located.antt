@@ -3,8 +3,8 @@ use Rattle.std.specs.Prelude.{ℕ, ◌+◌, Result, Ok, Err}
 use Rattle.units.specs.Refusals.{Reply, reply, answer, refusal_number}
 use Rattle.units.specs.declared.shapes.Shape.{Shape}
 use Rattle.table.specs.Banks.{bank_size, bank_start, named_tests}
-use Rattle.std.specs.declared.ops.Range.{Range}
 use Rattle.units.specs.declared.refusals.Refusal.{Refusal}
+use Rattle.table.specs.declared.banks.Stretch.{Stretch}
 
 -- its first cell and the one after its last
 pub record Located : Type 0 where
@@ -15,8 +15,8 @@ pub record Located : Type 0 where
 abbrev pub unlocated : Reply → Located
 unlocated b = record { number = b.number; first = 0; end = 0 }
 
-abbrev pub located : Result (Range ℕ) Refusal → Located
-located (Ok place) = record { number = 0; first = place.start; end = place.end }
+abbrev pub located : Result Stretch Refusal → Located
+located (Ok place) = record { number = 0; first = place.first; end = place.end }
 located (Err r) = unlocated (reply (refusal_number r) 0)
 
 abbrev pub bank_located : Shape → ℕ → ℕ → Located

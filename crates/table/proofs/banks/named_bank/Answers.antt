@@ -15,8 +15,8 @@ use Rattle.table.proofs.banks.named_bank.Goals as goal
 passed : (s : Shape) (h b : ℕ) → reply 0 0 ≡ refusal (named_tests s h b) → Passed (named_tests s h b)
 passed s h b e = done_so (named_tests s h b) (omega arith) e
 
-pub bank_at-requires : goal.bank_at-requires
-bank_at-requires c = (named_good {s = c.args.shape} (passed c.args.shape _ _ c.in_ok-namable.ensures)).bank
+pub bank_at-bank-requires : goal.bank_at-bank-requires
+bank_at-bank-requires c = (named_good {s = c.args.shape} (passed c.args.shape _ _ c.in_ok-namable.ensures)).bank
 
 pub returns-in_err-namable : goal.returns-in_err-namable
 returns-in_err-namable c =
@@ -25,5 +25,5 @@ returns-in_err-namable c =
 
 pub returns : goal.returns
 returns c =
-    ap₂ (λ (first end : ℕ). record { number = 0; first = first; end = end }) c.bank_at.ensures.0 c.bank_at.ensures.1
+    ap₂ (λ (first end : ℕ). record { number = 0; first = first; end = end }) c.bank_at-bank.ensures.0 c.bank_at-bank.ensures.1
     ∙ done_by unlocated _ (named_tests c.args.shape _ _) (passed c.args.shape _ _ c.in_ok-namable.ensures)

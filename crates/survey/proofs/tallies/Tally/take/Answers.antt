@@ -1,17 +1,11 @@
 -- `survey::Tally::take` meets its contract: its tests are those of `entry_tests` at the next n. Assumes nothing.
-use mathlib.Core.List.{[]}
 use mathlib.Core.Path.{ap, ◌∙◌}
 use native.Mathlib.Omega.{arith}
 use Rattle.units.specs.Refusals.{reply}
-use Rattle.units.proofs.Laws.Tests.{done_so, fault_so, done_by}
+use Rattle.units.proofs.Laws.Tests.{done_so, done_by}
 use Rattle.entry.specs.Report.{entry_tests}
 use Rattle.survey.specs.Tally.{State, state_of, handed_back}
 use Rattle.survey.proofs.tallies.Tally.take.Goals as goal
-
-pub returns-in-Err : goal.returns-in-Err
-returns-in-Err c =
-    let t = c.args.self in
-    fault_so (handed_back (state_of t)) _ (entry_tests t.shape t.next.0 c.args.f) [] c.in-Err.fault c.in-Err.ensures.answer
 
 pub returns-in-Ok : goal.returns-in-Ok
 returns-in-Ok c =
